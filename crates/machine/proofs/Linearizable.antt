@@ -1,0 +1,31 @@
+-- What is shown of the claim of demand 3 by computation: the run of M2, whose margin is one short of the needed one, violates it, and
+-- that of M3 satisfies it.
+use mathlib.Core.Path.{_≡_, refl}
+use mathlib.Core.List.{List, [], _∷_}
+use Prim.Native.Nat.{ℕ}
+use native.Mathlib.Omega.{arith}
+use Rattle.machine.specs.Types.{Outcome, Stored, Task, Abort}
+use Rattle.machine.specs.InRange.{inRange}
+use Rattle.machine.specs.Linearizable.{Linearizable}
+use Rattle.machine.specs.Rehearsals.{entriesIn, m2, m2Sizes, m3, m3Sizes}
+
+-- the thief answers TASK 11 where the plain queue, which has given 11 to the worker, has no task for it
+pub m2-violates : Linearizable m2Sizes (entriesIn m2) → ⊥
+unfolding inRange
+m2-violates l =
+    let e : _≡_ {A = List Outcome} (Task 11 ∷ []) (Abort ∷ []) = l .answers .1 .0 in
+    let z : _≡_ {A = ℕ} 0 1 = cc in
+    omega arith
+
+-- each equation by the list that both of its sides compute to
+pub m3-satisfies : Linearizable m3Sizes (entriesIn m3)
+unfolding inRange
+m3-satisfies =
+    record {
+      answers = (λ i. Stored ∷ Stored ∷ Task 12 ∷ Task 11 ∷ [], (λ i. Abort ∷ [], tt));
+      held = (λ i. 12 ∷ 11 ∷ [], (λ i. [], tt));
+      limits = refl;
+      once = (refl, (refl, tt));
+      noOther = λ i. 2;
+      standing = λ quiet i. [];
+    }

@@ -1,0 +1,10 @@
+-- Every row of the table of rehearsals holds, by one computation.
+use mathlib.Core.Path.{_≡_, refl}
+use mathlib.Core.Bool.{true}
+use Rattle.machine.specs.Lists.{all}
+use Rattle.machine.specs.InRange.{inRange}
+use Rattle.machine.specs.Rehearsals.{holds, rehearsals}
+
+pub rehearsals-hold : all holds rehearsals ≡ true
+unfolding inRange
+rehearsals-hold = refl

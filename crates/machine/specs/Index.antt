@@ -1,0 +1,36 @@
+-- Indices of the queue. Renders "Index i lies in slot i mod slots" of "The machine" and the ranges of indices of "Parts".
+use mathlib.Core.Bool.{Bool, _&&_}
+use Prim.Native.Nat.{ℕ, _-_, _%_}
+use lib.IntN.{ℤ, pos, negsuc, _+ℤ_, _-ℤ_}
+use lib.Signed.{leZ}
+use Rattle.machine.specs.Types.{Index}
+
+-- a natural number as an index
+abbrev pub indexOf : ℕ → Index
+indexOf n = record { at = pos n }
+
+abbrev pub next : Index → Index
+next i = record { at = i .at +ℤ pos 1 }
+
+abbrev pub previous : Index → Index
+previous i = record { at = i .at -ℤ pos 1 }
+
+abbrev pub eqZ : ℤ → ℤ → Bool
+eqZ a b = leZ a b && leZ b a
+
+-- an index modulo the number of slots; that of −1 is the last slot
+abbrev pub modulo : ℤ → ℕ → ℕ
+modulo (pos i) n = i % n
+modulo (negsuc i) n = (n - 1) - (i % n)
+
+-- the slot in which an index lies, of n slots
+abbrev pub slotOf : ℕ → Index → ℕ
+slotOf n i = modulo (i .at) n
+
+-- "−1 to 2,147,483,648"
+abbrev pub indexInRange : Index → Bool
+indexInRange i = leZ (negsuc 0) (i .at) && leZ (i .at) (pos 2147483648)
+
+-- "a slot's from 0"
+abbrev pub slotIndexInRange : Index → Bool
+slotIndexInRange i = leZ (pos 0) (i .at) && leZ (i .at) (pos 2147483648)

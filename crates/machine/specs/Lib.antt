@@ -1,0 +1,16 @@
+-- What the bench's promises say. Reading order: that of the lines below, which is the paper's.
+pub mod Types
+pub mod Lists
+pub mod Sizes
+pub mod Outcome
+pub mod Index
+pub mod StoreBuffer
+pub mod Machine
+pub mod InRange
+pub mod Worker
+pub mod Thief
+pub mod Obey
+pub mod PlainQueue
+pub mod Effect
+pub mod Linearizable
+pub mod Rehearsals

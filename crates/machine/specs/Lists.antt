@@ -1,0 +1,35 @@
+-- Tests and sums over a list, which the library does not have. Nothing here is of the paper.
+use mathlib.Core.Bool.{Bool, true, cond, _&&_}
+use mathlib.Core.List.{List, [], _∷_, _++_}
+use Prim.Native.Nat.{ℕ, zero, suc, _+_}
+use lib.Dec.{eqb}
+
+module _ {A : Type 0} where
+  -- the test passes at every element
+  abbrev pub all : (A → Bool) → List A → Bool
+  all f [] = true
+  all f (x ∷ l) = f x && all f l
+
+  -- the type is inhabited at every element
+  abbrev pub Every : (A → Type 0) → List A → Type 0
+  Every P [] = Unit {0}
+  Every P (x ∷ l) = P x × Every P l
+
+module _ {A B : Type 0} where
+  -- the lists of all elements, one after the other
+  abbrev pub gather : (A → List B) → List A → List B
+  gather f [] = []
+  gather f (x ∷ l) = f x ++ gather f l
+
+-- 0 up to n, without n
+abbrev pub upFrom : ℕ → ℕ → List ℕ
+upFrom k zero = []
+upFrom k (suc n) = k ∷ upFrom (suc k) n
+
+abbrev pub upTo : ℕ → List ℕ
+upTo n = upFrom 0 n
+
+-- how often a number stands in a list
+abbrev pub occurrences : ℕ → List ℕ → ℕ
+occurrences k [] = 0
+occurrences k (x ∷ l) = cond (eqb k x) 1 0 + occurrences k l

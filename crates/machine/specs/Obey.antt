@@ -1,0 +1,56 @@
+-- An entry obeyed, and a list of them. Renders "Parts", on what an operation does first, "Within an entry: 5, 6, 7" of "The numbers",
+-- and "Each entry gets the machine that the last one handed back" of "Demand 3's plain queue".
+use mathlib.Core.Bool.{Bool, true, cond, not, _&&_}
+use mathlib.Core.List.{List, [], _∷_}
+use lib.Dec.{ltb}
+use Rattle.machine.specs.Types.{Done, Entry, Drain, ClientStore, BeginPut, BeginTake, WorkerStep, BeginSteal, ThiefStep, Machine, Outcome, Moved, Wait, Sizes}
+use Rattle.machine.specs.StoreBuffer.{dropOldest, oldest, slotsAfter, tailAfter}
+use Rattle.machine.specs.Machine.{done, needing, nothingPending, thiefCall, withMemory}
+use Rattle.machine.specs.InRange.{inRange}
+use Rattle.machine.specs.Worker.{beginPut, beginTake, makeClientStore, stepOfWorker}
+use Rattle.machine.specs.Thief.{beginSteal, stepOfThief}
+
+-- "A drain moves the oldest to memory, a client store to nowhere"; 7 WAIT for a drain of nothing
+abbrev pub drain : Machine → Done
+drain m =
+    needing (not (nothingPending m)) m
+    (done Moved
+    (withMemory
+    (slotsAfter (m .sizes .slots) (m .slots) (oldest (m .buffer) .kind))
+    (tailAfter (m .tail) (oldest (m .buffer) .kind))
+    (dropOldest (m .buffer))
+    m))
+
+-- each of the seven kinds, on a machine in range and with a thief that is there
+abbrev pub obeyInRange : Machine → Entry → Done
+obeyInRange m Drain = drain m
+obeyInRange m ClientStore = makeClientStore m
+obeyInRange m (BeginPut x) = beginPut x m
+obeyInRange m BeginTake = beginTake m
+obeyInRange m WorkerStep = stepOfWorker m (m .worker .call)
+obeyInRange m (BeginSteal i) = beginSteal i m
+obeyInRange m (ThiefStep i) = stepOfThief i m (thiefCall m i)
+
+-- the thief that the entry names, if it names one, is below the number of thieves
+abbrev pub thiefIsThere : Sizes → Entry → Bool
+thiefIsThere s Drain = true
+thiefIsThere s ClientStore = true
+thiefIsThere s (BeginPut x) = true
+thiefIsThere s BeginTake = true
+thiefIsThere s WorkerStep = true
+thiefIsThere s (BeginSteal i) = ltb i (s .thieves)
+thiefIsThere s (ThiefStep i) = ltb i (s .thieves)
+
+-- 7 for a machine out of range or a thief that is not there, before 5 and 6 are looked at
+abbrev pub obey : Machine → Entry → Done
+obey m e = cond (inRange m && thiefIsThere (m .sizes) e) (obeyInRange m e) (done Wait m)
+
+-- ── A list of entries, each on the machine that the last one handed back ────────────────────────────────────────────────────
+
+abbrev pub machineAfter : Machine → List Entry → Machine
+machineAfter m [] = m
+machineAfter m (e ∷ es) = machineAfter (obey m e .machine) es
+
+abbrev pub outcomesOf : Machine → List Entry → List Outcome
+outcomesOf m [] = []
+outcomesOf m (e ∷ es) = obey m e .outcome ∷ outcomesOf (obey m e .machine) es

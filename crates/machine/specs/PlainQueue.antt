@@ -1,0 +1,78 @@
+-- The plain two-ended queue that every answer is compared with. Renders "Demand 3's plain queue", from "has a list of tasks" to "only
+-- where a task stands". It knows nothing of the machine.
+use mathlib.Core.Bool.{Bool, true, false, cond, _||_}
+use mathlib.Core.List.{List, [], _∷_, _++_}
+use Prim.Native.Nat.{ℕ, _+_, _-_}
+use lib.Dec.{leb, ltb, eqb}
+use lib.ListN.{length, take, drop}
+use Rattle.machine.specs.Types.{Outcome, Stored, Task, Empty, Abort, Full, End}
+
+-- A task with the put that it came from, counted from 0 among the puts that were STORED: "Tasks are told apart by their put, so equal
+-- numbers are different tasks".
+pub record StoredTask : Type 0 where
+  pub put : ℕ
+  pub number : ℕ
+
+pub record PlainQueue : Type 0 where
+  -- the tasks that stand, oldest first
+  pub tasks : List StoredTask
+  -- start + stored − taken by the worker
+  pub sum : ℕ
+  -- how many puts were STORED
+  pub stored : ℕ
+
+abbrev pub emptyQueue : ℕ → PlainQueue
+emptyQueue start = record { tasks = []; sum = start; stored = 0 }
+
+-- What the queue is told: a call, with the put's number and whether a put is FULL or a steal ABORT.
+pub data Call : Type 0 where
+  putCall : ℕ → Bool → Call
+  takeCall : Call
+  stealCall : Bool → Call
+
+-- What the queue does about it: the queue after the call, its answer, and the task that left the list, if one did.
+pub record Reply : Type 0 where
+  pub queue : PlainQueue
+  pub answer : Outcome
+  pub given : List StoredTask
+
+-- an answer that changes nothing
+abbrev pub unchanged : PlainQueue → Outcome → Reply
+unchanged q o = record { queue = q; answer = o; given = [] }
+
+-- the task joins as the newest and the sum grows by 1
+abbrev pub joined : ℕ → PlainQueue → Reply
+joined x q =
+    record {
+      queue = record { tasks = q .tasks ++ (record { put = q .stored; number = x } ∷ []); sum = q .sum + 1; stored = q .stored + 1 };
+      answer = Stored;
+      given = [];
+    }
+
+-- a task leaves and the queue is the one that is named; where there is none to leave, nothing changes and the answer is the one that is named
+abbrev pub leaves : List StoredTask → PlainQueue → PlainQueue → Outcome → Reply
+leaves [] after q none = unchanged q none
+leaves (t ∷ ts) after q none = record { queue = after; answer = Task (t .number); given = t ∷ [] }
+
+-- the newest task, in a list of at most one, and the tasks without it
+abbrev pub newest : List StoredTask → List StoredTask
+newest l = drop (length l - 1) l
+
+abbrev pub withoutNewest : List StoredTask → List StoredTask
+withoutNewest l = take (length l - 1) l
+
+-- END exactly when the sum is 2,147,483,647; EMPTY exactly when no task stands. A steal that is told neither ABORT nor a task breaks a
+-- limit below; the queue answers it ABORT.
+abbrev pub respond : PlainQueue → Call → Reply
+respond q (putCall x full) = cond (eqb (q .sum) 2147483647) (unchanged q End) (cond full (unchanged q Full) (joined x q))
+respond q takeCall = leaves (newest (q .tasks)) (record { tasks = withoutNewest (q .tasks); sum = q .sum - 1; stored = q .stored }) q Empty
+respond q (stealCall true) = unchanged q Abort
+respond q (stealCall false) = leaves (take 1 (q .tasks)) (record { tasks = drop 1 (q .tasks); sum = q .sum; stored = q .stored }) q Abort
+
+-- The limits on what it is told, with n slots, counted just before the call acts: FULL only with n − 1 or more tasks standing, STORED
+-- only with fewer than n, a steal without ABORT only where a task stands.
+abbrev pub withinLimits : ℕ → PlainQueue → Call → Bool
+withinLimits n q (putCall x true) = leb (n - 1) (length (q .tasks))
+withinLimits n q (putCall x false) = eqb (q .sum) 2147483647 || ltb (length (q .tasks)) n
+withinLimits n q takeCall = true
+withinLimits n q (stealCall abort) = abort || ltb 0 (length (q .tasks))

@@ -1,0 +1,225 @@
+-- The rehearsals of the paper, M1 to M9, as one table over the definitions, with rows for the example under "The program's lines", for
+-- the lines of "Broken thread" that a run can show, for each limit of the plain queue, and for machines that no run reaches.
+-- `proofs/Rehearsals.antt` proves one fact: every row holds.
+use mathlib.Core.Bool.{Bool, true, not, _&&_}
+use mathlib.Core.List.{List, [], _∷_, _++_, map}
+use Prim.Native.Nat.{ℕ, _-_}
+use lib.Dec.{eqb}
+use lib.IntN.{ℤ, pos, negsuc}
+use lib.ListN.{length, replicate}
+use Rattle.machine.specs.Types.{Entry, Drain, ClientStore, BeginPut, BeginTake, WorkerStep, BeginSteal, ThiefStep, Machine, Outcome, Moved, Place, Early, Wait, Stored, Task, Empty, Abort, Full, End, Sizes, PutStoreSlot, PutStoreTail}
+use Rattle.machine.specs.Lists.{all, gather, upFrom}
+use Rattle.machine.specs.Sizes.{neededMargin}
+use Rattle.machine.specs.Outcome.{numberOf, valueOf}
+use Rattle.machine.specs.Index.{eqZ}
+use Rattle.machine.specs.StoreBuffer.{emptyBuffer}
+use Rattle.machine.specs.Machine.{fresh, withMemory, withSpacing, withWorker}
+use Rattle.machine.specs.InRange.{inRange}
+use Rattle.machine.specs.Obey.{obey}
+use Rattle.machine.specs.Effect.{Watch, watchAfter, watchFresh}
+
+-- ── Rows ────────────────────────────────────────────────────────────────────────────────────────────────────────────────────
+
+-- A line of a story: an entry with what it comes to, or a look at memory's head, at memory's tail or at how many tasks stand.
+pub data Line : Type 0 where
+  does : Entry → Outcome → Line
+  headIs : ℤ → Line
+  tailIs : ℤ → Line
+  standing : ℕ → Line
+
+pub data Row : Type 0 where
+  -- the needed margin of a buffer size and a spacing
+  margin : (buffer spacing needed : ℕ) → Row
+  -- a story that starts at the fresh machine
+  story : Sizes → List Line → Row
+  -- a machine in range that the entry leads out of range, so that the next operation answers 7
+  brink : Machine → Entry → Row
+
+abbrev pub sameOutcome : Outcome → Outcome → Bool
+sameOutcome o p = eqb (numberOf o) (numberOf p) && eqb (valueOf o) (valueOf p)
+
+abbrev pub tells : Watch → List Line → Bool
+tells w [] = true
+tells w (does e o ∷ l) = sameOutcome (obey (w .machine) e .outcome) o && tells (watchAfter w e) l
+tells w (headIs z ∷ l) = eqZ (w .machine .head .at) z && tells w l
+tells w (tailIs z ∷ l) = eqZ (w .machine .tail .at) z && tells w l
+tells w (standing n ∷ l) = eqb (length (w .queue .tasks)) n && tells w l
+
+abbrev pub holds : Row → Bool
+holds (margin b s n) = eqb (neededMargin b s) n
+holds (story s l) = tells (watchFresh s) l
+holds (brink m e) = inRange m && not (inRange (obey m e .machine)) && sameOutcome (obey (obey m e .machine) Drain .outcome) Wait
+
+-- the entries of a story
+abbrev pub entryIn : Line → List Entry
+entryIn (does e o) = e ∷ []
+entryIn (headIs z) = []
+entryIn (tailIs z) = []
+entryIn (standing n) = []
+
+abbrev pub entriesIn : List Line → List Entry
+entriesIn l = gather entryIn l
+
+-- ── Words for stories ───────────────────────────────────────────────────────────────────────────────────────────────────────
+
+-- slots, buffer, spacing, margin, thieves, start
+abbrev pub sizes : ℕ → ℕ → ℕ → ℕ → ℕ → ℕ → Sizes
+sizes n b x d t i = record { slots = n; buffer = b; spacing = x; margin = d; thieves = t; start = i }
+
+abbrev pub drains : ℕ → List Line
+drains n = replicate n (does Drain Moved)
+
+abbrev pub clientStores : ℕ → List Line
+clientStores n = replicate n (does ClientStore Moved)
+
+abbrev pub workerMoves : ℕ → List Line
+workerMoves n = replicate n (does WorkerStep Moved)
+
+abbrev pub workerEnds : Outcome → List Line
+workerEnds o = does WorkerStep o ∷ []
+
+abbrev pub thiefMoves : ℕ → List Line
+thiefMoves n = replicate n (does (ThiefStep 0) Moved)
+
+abbrev pub thiefEnds : Outcome → List Line
+thiefEnds o = does (ThiefStep 0) o ∷ []
+
+-- a whole put that is STORED
+abbrev pub puts : ℕ → List Line
+puts x = does (BeginPut x) Moved ∷ workerMoves 2 ++ workerEnds Stored
+
+-- a whole put that ends at its first step
+abbrev pub putEnds : ℕ → Outcome → List Line
+putEnds x o = does (BeginPut x) Moved ∷ workerEnds o
+
+-- a whole take that needs no lock
+abbrev pub takes : ℕ → List Line
+takes x = does BeginTake Moved ∷ workerMoves 2 ++ workerEnds (Task x)
+
+-- a whole steal
+abbrev pub steals : Outcome → List Line
+steals o = does (BeginSteal 0) Moved ∷ thiefMoves 5 ++ thiefEnds o
+
+-- puts of 1 to n, each fully drained
+abbrev pub filled : ℕ → List Line
+filled n = gather (λ x. puts x ++ drains 2) (upFrom 1 n)
+
+-- ── The table ───────────────────────────────────────────────────────────────────────────────────────────────────────────────
+
+abbrev pub m1 : List Row
+m1 = margin 33 1 17 ∷ margin 32 0 32 ∷ margin 64 63 1 ∷ []
+
+-- two takes undrained, under a thief's eyes that still see the old tail
+abbrev pub twoTakesThenSteal : Outcome → List Line
+twoTakesThenSteal o = puts 11 ++ drains 2 ++ puts 12 ++ drains 2 ++ takes 12 ++ takes 11 ++ steals o
+
+-- M2: the margin is one short, and 11 is given twice
+abbrev pub m2Sizes : Sizes
+m2Sizes = sizes 4 2 0 1 1 0
+
+abbrev pub m2 : List Line
+m2 = twoTakesThenSteal (Task 11)
+
+-- M3: the needed margin
+abbrev pub m3Sizes : Sizes
+m3Sizes = sizes 4 2 0 2 1 0
+
+abbrev pub m3 : List Line
+m3 = twoTakesThenSteal Abort ++ headIs (pos 0) ∷ []
+
+-- M4: of two slots one is left free. FULL comes with slots − 1 tasks standing.
+abbrev pub m4 : List Line
+m4 = puts 1 ++ standing 1 ∷ putEnds 2 Full
+
+-- M5: a thief has raised head and does not know yet whether it steals. STORED comes with slots − 1 tasks standing.
+abbrev pub m5 : List Line
+m5 =
+    puts 1 ++ drains 2 ++ does (BeginSteal 0) Moved ∷ thiefMoves 3
+    ++ headIs (pos 1) ∷ standing 1 ∷ puts 2
+    ++ standing 2 ∷ putEnds 3 Full
+    ++ thiefMoves 2 ++ thiefEnds Abort ++ headIs (pos 0) ∷ []
+
+-- M6: a take from an empty queue; the tail goes to −1 and back
+abbrev pub m6 : List Line
+m6 =
+    does BeginTake Moved ∷ workerMoves 2 ++ drains 1
+    ++ tailIs (negsuc 0) ∷ workerMoves 3 ++ drains 1
+    ++ tailIs (pos 0) ∷ workerEnds Empty
+
+-- M8: the next take must wait for a client store
+abbrev pub m8 : List Line
+m8 = puts 1 ++ takes 1 ++ does BeginTake Early ∷ clientStores 1 ++ does BeginTake Moved ∷ []
+
+-- M9: one task, and the lock is a thief's when the worker wants it; the worker's tail store has drained, so the lock is all that it
+-- waits for
+abbrev pub m9 : List Line
+m9 =
+    puts 7 ++ drains 2 ++ does (BeginSteal 0) Moved ∷ thiefMoves 3
+    ++ headIs (pos 1) ∷ does BeginTake Moved ∷ workerMoves 2 ++ drains 1
+    ++ workerEnds Wait ++ thiefMoves 2 ++ thiefEnds Abort
+    ++ workerMoves 3 ++ workerEnds (Task 7)
+
+-- "The program's lines"
+abbrev pub exampleLines : List Line
+exampleLines = does (BeginPut 7) Moved ∷ workerMoves 2 ++ does WorkerStep Wait ∷ drains 1 ++ workerEnds Stored
+
+-- "Rounding the needed margin down: buffer 33, spacing 1 gives 16": 17 takes are pending at once, each with a client store after it
+abbrev pub seventeenTakesThenSteal : Outcome → List Line
+seventeenTakesThenSteal o = filled 17 ++ takes 17 ++ gather (λ k. clientStores 1 ++ takes (17 - k)) (upFrom 1 16) ++ steals o
+
+-- "FULL only at all slots": a thief has stolen task 1 and not yet loaded its slot, which one more put would overwrite
+abbrev pub slotAboutToBeLoaded : List Line
+slotAboutToBeLoaded =
+    puts 1 ++ drains 2 ++ does (BeginSteal 0) Moved ∷ thiefMoves 3 ++ puts 2 ++ drains 2
+    ++ thiefMoves 1 ++ putEnds 3 Full ++ thiefMoves 1 ++ thiefEnds (Task 1)
+
+-- "A thief that sees pending stores": the tasks are there for it only once they have drained
+abbrev pub thiefSeesMemory : List Line
+thiefSeesMemory = puts 1 ++ puts 2 ++ tailIs (pos 0) ∷ steals Abort ++ drains 4 ++ tailIs (pos 2) ∷ steals (Task 1)
+
+-- "a worker that loads its tail from memory": its own puts count before they have drained
+abbrev pub workerSeesPending : List Line
+workerSeesPending = puts 1 ++ puts 2 ++ tailIs (pos 0) ∷ takes 2 ++ takes 1 ++ tailIs (pos 0) ∷ []
+
+-- "testing T − margin ≥ h": a tail just at the margin is not enough
+abbrev pub tailAtMargin : List Line
+tailAtMargin = filled 1 ++ steals Abort ++ puts 2 ++ drains 2 ++ steals (Task 1)
+
+-- a steal without ABORT where one task stands: the worker has taken the others, unseen
+abbrev pub lastTaskStanding : List Line
+lastTaskStanding = filled 3 ++ takes 3 ++ takes 2 ++ standing 1 ∷ steals (Task 1) ++ standing 0 ∷ []
+
+abbrev pub stories : List Row
+stories =
+    story m2Sizes m2
+    ∷ story m3Sizes m3
+    ∷ story (sizes 2 2 0 2 1 0) m4
+    ∷ story (sizes 2 2 0 2 1 0) m5
+    ∷ story (sizes 4 2 0 2 1 0) m6
+    ∷ story (sizes 4 2 0 2 1 2147483647) (putEnds 1 End)
+    ∷ story (sizes 4 2 0 2 1 2147483646) (puts 1 ++ putEnds 2 End)
+    ∷ story (sizes 4 4 1 2 1 0) m8
+    ∷ story (sizes 4 2 0 2 1 0) m9
+    ∷ story (sizes 4 1 0 1 1 0) exampleLines
+    ∷ story (sizes 32 33 1 16 1 0) (seventeenTakesThenSteal (Task 1))
+    ∷ story (sizes 32 33 1 17 1 0) (seventeenTakesThenSteal Abort)
+    ∷ story (sizes 2 2 1 1 1 0) slotAboutToBeLoaded
+    ∷ story (sizes 4 8 7 1 1 0) thiefSeesMemory
+    ∷ story (sizes 4 8 0 8 1 0) workerSeesPending
+    ∷ story (sizes 4 2 1 1 1 0) tailAtMargin
+    ∷ story (sizes 4 2 0 2 1 0) lastTaskStanding
+    ∷ []
+
+-- a machine with this tail and no store pending
+abbrev pub withTail : ℤ → Machine → Machine
+withTail z m = withMemory (m .slots) (record { at = z }) emptyBuffer m
+
+abbrev pub brinks : List Row
+brinks =
+    brink (withSpacing 4096 true (fresh m3Sizes)) ClientStore
+    ∷ brink (withTail (pos 2147483648) (withWorker PutStoreTail (fresh m3Sizes))) WorkerStep
+    ∷ brink (withTail (negsuc 0) (withWorker (PutStoreSlot 5) (fresh m3Sizes))) WorkerStep
+    ∷ []
+
+abbrev pub rehearsals : List Row
+rehearsals = m1 ++ stories ++ brinks

@@ -1,0 +1,55 @@
+-- The sizes of a schedule: their ranges and the margins. Renders "The schedule file": the table, places 0 to 5 (place 6, the number
+-- of entries, is a matter of the file), and the paragraph under it.
+use mathlib.Core.Bool.{Bool, true, false, cond, _&&_}
+use mathlib.Core.List.{List, [], _∷_}
+use Prim.Native.Nat.{ℕ, _+_, _-_, _/_}
+use lib.Dec.{leb, eqb}
+use Rattle.machine.specs.Types.{Sizes, SizeCheck, InRange, OutOfRange}
+
+-- a number is neither below the least nor above the greatest
+abbrev pub within : ℕ → ℕ → ℕ → Bool
+within least greatest n = leb least n && leb n greatest
+
+-- the table: for each size in its place, whether it is in its range
+abbrev pub rangesKept : Sizes → List Bool
+rangesKept s =
+    within 2 256 (s .slots)
+    ∷ within 1 64 (s .buffer)
+    ∷ within 0 63 (s .spacing)
+    ∷ within 0 64 (s .margin)
+    ∷ within 1 8 (s .thieves)
+    ∷ within 0 2147483647 (s .start)
+    ∷ []
+
+-- the place of the first test that failed, counted from a given one
+abbrev pub firstFault : ℕ → List Bool → SizeCheck
+firstFault place [] = InRange
+firstFault place (kept ∷ l) = cond kept (firstFault (place + 1) l) (OutOfRange place)
+
+-- "The numbers", 1 SIZE: a size outside its range, with its place, lowest place first
+abbrev pub checkSizes : Sizes → SizeCheck
+checkSizes s = firstFault 0 (rangesKept s)
+
+abbrev pub isInRange : SizeCheck → Bool
+isInRange InRange = true
+isInRange (OutOfRange place) = false
+
+-- every size is in its range
+abbrev pub sizesInRange : Sizes → Bool
+sizesInRange s = isInRange (checkSizes s)
+
+-- "0 stands for the buffer size", for the margin only
+abbrev pub marginInUse : Sizes → ℕ
+marginInUse s = cond (eqb (s .margin) 0) (s .buffer) (s .margin)
+
+-- a quotient, rounded up: a remainder counts as a whole
+abbrev pub divideUp : ℕ → ℕ → ℕ
+divideUp n d = (n + (d - 1)) / d
+
+-- the needed margin of a buffer size and a spacing
+abbrev pub neededMargin : ℕ → ℕ → ℕ
+neededMargin buffer spacing = divideUp buffer (spacing + 1)
+
+-- "The program's lines": the margin in use is at least the needed one
+abbrev pub enoughMargin : Sizes → Bool
+enoughMargin s = leb (neededMargin (s .buffer) (s .spacing)) (marginInUse s)

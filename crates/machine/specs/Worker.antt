@@ -1,0 +1,141 @@
+-- The worker's entries: client stores, beginnings, and each step of a put and of a take. Renders, of "The machine", "Put", "Take", the
+-- paragraph on what locking, unlocking and a new pending store need, and the spacing rule; and 5, 6 and 7 of "The numbers" for them.
+use mathlib.Core.Bool.{Bool, true, false, cond, _&&_}
+use Prim.Native.Nat.{ℕ, _+_}
+use lib.Dec.{ltb}
+use lib.IntN.{pos, _+ℤ_, _-ℤ_}
+use lib.Signed.{leZ}
+use Rattle.machine.specs.Types.{Done, Index, Machine, Nobody, TheWorker, Outcome, Moved, Place, Early, Stored, Task, Empty, Full, End, Store, WorkerCall, PutLoadHead, PutStoreSlot, PutStoreTail, TakeStoreTail, TakeLoadHead, TakeLoadSlot, TakeLock, TakeReloadHead, TakeRestoreTail, TakeUnlockEmpty, TakeUnlockTask, TakeLoadLastSlot}
+use Rattle.machine.specs.Index.{eqZ, next, previous}
+use Rattle.machine.specs.StoreBuffer.{clientStore, tailStore, slotStore}
+use Rattle.machine.specs.Machine.{done, hasRoom, lockIsFree, needing, nothingPending, pushed, withLock, withSpacing, withWorker, workerLoad, workerTail}
+
+-- ── How a step ends ─────────────────────────────────────────────────────────────────────────────────────────────────────────
+
+-- the call goes on: this step is next
+abbrev pub workerGoesOn : WorkerCall → Machine → Done
+workerGoesOn c m = done Moved (withWorker c m)
+
+-- the call ends with this answer
+abbrev pub workerAnswers : Outcome → Machine → Done
+workerAnswers o m = done o (withWorker WorkerCall.Idle m)
+
+-- ── Put ─────────────────────────────────────────────────────────────────────────────────────────────────────────────────────
+
+-- the worker's tail has reached the last index
+abbrev pub atEnd : Machine → Bool
+atEnd m = eqZ (workerTail m .at) (pos 2147483647)
+
+-- tail − head ≥ slots − 1
+abbrev pub isFull : Machine → Bool
+isFull m = leZ (pos (m .sizes .slots) -ℤ pos 1) (workerTail m .at -ℤ m .head .at)
+
+-- (1) load head: END, else FULL, else go on
+abbrev pub putLoadHead : ℕ → Machine → Done
+putLoadHead x m = cond (atEnd m) (workerAnswers End m) (cond (isFull m) (workerAnswers Full m) (workerGoesOn (PutStoreSlot x) m))
+
+-- (2) slot store at the tail's index
+abbrev pub putStoreSlot : ℕ → Machine → Done
+putStoreSlot x m = needing (hasRoom m) m (workerGoesOn PutStoreTail (pushed (slotStore (workerTail m) x) m))
+
+-- (3) store tail + 1, STORED
+abbrev pub putStoreTail : Machine → Done
+putStoreTail m = needing (hasRoom m) m (workerAnswers Stored (pushed (tailStore (next (workerTail m))) m))
+
+-- ── Take ────────────────────────────────────────────────────────────────────────────────────────────────────────────────────
+
+-- (1) store t = tail − 1
+abbrev pub takeStoreTail : Machine → Done
+takeStoreTail m = needing (hasRoom m) m (workerGoesOn (TakeLoadHead (previous (workerTail m))) (pushed (tailStore (previous (workerTail m))) m))
+
+-- t ≥ head
+abbrev pub noThiefNear : Index → Machine → Bool
+noThiefNear t m = leZ (m .head .at) (t .at)
+
+-- (2) load head h: where t ≥ h the slot is next, else the lock
+abbrev pub takeLoadHead : Index → Machine → Done
+takeLoadHead t m = cond (noThiefNear t m) (workerGoesOn (TakeLoadSlot t) m) (workerGoesOn (TakeLock t) m)
+
+-- (3), and (6) after the lock: load the slot of t, TASK
+abbrev pub takeLoadSlot : Index → Machine → Done
+takeLoadSlot t m = workerAnswers (Task (workerLoad m t)) m
+
+-- (3) lock, where t < h
+abbrev pub takeLock : Index → Machine → Done
+takeLock t m = needing (lockIsFree m && nothingPending m) m (workerGoesOn (TakeReloadHead t) (withLock TheWorker m))
+
+-- head ≥ t + 1
+abbrev pub taskIsGone : Index → Machine → Bool
+taskIsGone t m = leZ (t .at +ℤ pos 1) (m .head .at)
+
+-- (4) load head again: where head ≥ t + 1 the old tail is stored next, else comes the unlock
+abbrev pub takeReloadHead : Index → Machine → Done
+takeReloadHead t m = cond (taskIsGone t m) (workerGoesOn (TakeRestoreTail t) m) (workerGoesOn (TakeUnlockTask t) m)
+
+-- (5) store tail t + 1
+abbrev pub takeRestoreTail : Index → Machine → Done
+takeRestoreTail t m = needing (hasRoom m) m (workerGoesOn TakeUnlockEmpty (pushed (tailStore (next t)) m))
+
+-- (6) unlock, EMPTY
+abbrev pub takeUnlockEmpty : Machine → Done
+takeUnlockEmpty m = needing (nothingPending m) m (workerAnswers Empty (withLock Nobody m))
+
+-- (5) unlock, where the task is there
+abbrev pub takeUnlockTask : Index → Machine → Done
+takeUnlockTask t m = needing (nothingPending m) m (workerGoesOn (TakeLoadLastSlot t) (withLock Nobody m))
+
+-- ── Entries ─────────────────────────────────────────────────────────────────────────────────────────────────────────────────
+
+-- whether the worker's call runs
+abbrev pub workerRuns : WorkerCall → Bool
+workerRuns WorkerCall.Idle = false
+workerRuns (PutLoadHead x) = true
+workerRuns (PutStoreSlot x) = true
+workerRuns PutStoreTail = true
+workerRuns TakeStoreTail = true
+workerRuns (TakeLoadHead t) = true
+workerRuns (TakeLoadSlot t) = true
+workerRuns (TakeLock t) = true
+workerRuns (TakeReloadHead t) = true
+workerRuns (TakeRestoreTail t) = true
+workerRuns TakeUnlockEmpty = true
+workerRuns (TakeUnlockTask t) = true
+workerRuns (TakeLoadLastSlot t) = true
+
+-- 5 PLACE for a beginning or a client store while the worker's call runs
+abbrev pub unlessWorkerRuns : Machine → Done → Done
+unlessWorkerRuns m d = cond (workerRuns (m .worker .call)) (done Place m) d
+
+-- the spacing count after one more client store: "the count is 0 until then", until the first take has begun
+abbrev pub countedStore : Machine → Machine
+countedStore m = withSpacing (cond (m .taken) (m .since + 1) 0) (m .taken) m
+
+abbrev pub makeClientStore : Machine → Done
+makeClientStore m = unlessWorkerRuns m (needing (hasRoom m) m (done Moved (countedStore (pushed clientStore m))))
+
+abbrev pub beginPut : ℕ → Machine → Done
+beginPut x m = unlessWorkerRuns m (workerGoesOn (PutLoadHead x) m)
+
+-- a take has begun before, and the client stores since then are fewer than the spacing
+abbrev pub tooEarly : Machine → Bool
+tooEarly m = m .taken && ltb (m .since) (m .sizes .spacing)
+
+-- 6 EARLY against the spacing rule. A take that begins is the one that later client stores are counted from.
+abbrev pub beginTake : Machine → Done
+beginTake m = unlessWorkerRuns m (cond (tooEarly m) (done Early m) (workerGoesOn TakeStoreTail (withSpacing 0 true m)))
+
+-- the next step of the worker's call; 5 PLACE where no call runs
+abbrev pub stepOfWorker : Machine → WorkerCall → Done
+stepOfWorker m WorkerCall.Idle = done Place m
+stepOfWorker m (PutLoadHead x) = putLoadHead x m
+stepOfWorker m (PutStoreSlot x) = putStoreSlot x m
+stepOfWorker m PutStoreTail = putStoreTail m
+stepOfWorker m TakeStoreTail = takeStoreTail m
+stepOfWorker m (TakeLoadHead t) = takeLoadHead t m
+stepOfWorker m (TakeLoadSlot t) = takeLoadSlot t m
+stepOfWorker m (TakeLock t) = takeLock t m
+stepOfWorker m (TakeReloadHead t) = takeReloadHead t m
+stepOfWorker m (TakeRestoreTail t) = takeRestoreTail t m
+stepOfWorker m TakeUnlockEmpty = takeUnlockEmpty m
+stepOfWorker m (TakeUnlockTask t) = takeUnlockTask t m
+stepOfWorker m (TakeLoadLastSlot t) = takeLoadSlot t m

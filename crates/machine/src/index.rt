@@ -1,0 +1,27 @@
+use crate::test::both;
+ghost use mathlib.Core.Path.{_≡_};
+ghost use Rattle.machine.specs.Index.{indexInRange, slotIndexInRange};
+
+// A position of the queue: a value of head or tail, or the place of a task. It never wraps; a slot is found by its
+// remainder. -1 is a true value: a take from an empty queue that starts at 0 stores it as the tail.
+pub struct Index {
+    pub at: i64,
+}
+
+impl Index {
+    // Whether a machine may hold it as head, as tail or in a call.
+    pub(crate) fn in_range(self) -> bool
+        ensures { λ r. ⌜ r ≡ indexInRange self ⌝ }
+    {
+        let at = self.at;
+        both(-1 <= at, at <= 2147483648)
+    }
+
+    // Whether a machine may hold it as the index of a slot.
+    pub(crate) fn slot_in_range(self) -> bool
+        ensures { λ r. ⌜ r ≡ slotIndexInRange self ⌝ }
+    {
+        let at = self.at;
+        both(0 <= at, at <= 2147483648)
+    }
+}

@@ -1,0 +1,64 @@
+ghost use mathlib.Core.Path.{_≡_};
+ghost use Rattle.machine.specs.Outcome.{numberOf, valueOf};
+
+// What an entry comes to.
+pub enum Outcome {
+    // A step was made, and the call goes on; or a drain, a client store or a beginning.
+    Moved,
+    // The entry's party has a call running where it must have none, or none where it must have one.
+    Place,
+    // A take was begun against the spacing rule.
+    Early,
+    // What the step needs is not there yet.
+    Wait,
+    // A put ends: its task is in the queue.
+    Stored,
+    // A take or a steal ends with the task of this number.
+    Task(u32),
+    // A take ends: there was no task.
+    Empty,
+    // A steal ends: the margin does not let it be sure of a task.
+    Abort,
+    // A put ends: the slots are in use.
+    Full,
+    // A put ends: the last index is reached.
+    End,
+}
+
+impl Outcome {
+    // The paper's number of the outcome.
+    pub fn number(self) -> u8
+        ensures { λ r. ⌜ r ≡ numberOf self ⌝ }
+    {
+        match self {
+            Outcome::Moved => 0,
+            Outcome::Place => 5,
+            Outcome::Early => 6,
+            Outcome::Wait => 7,
+            Outcome::Stored => 16,
+            Outcome::Task(_) => 17,
+            Outcome::Empty => 18,
+            Outcome::Abort => 19,
+            Outcome::Full => 20,
+            Outcome::End => 21,
+        }
+    }
+
+    // The value beside it: the task's number, or 0.
+    pub fn value(self) -> u32
+        ensures { λ r. ⌜ r ≡ valueOf self ⌝ }
+    {
+        match self {
+            Outcome::Moved => 0,
+            Outcome::Place => 0,
+            Outcome::Early => 0,
+            Outcome::Wait => 0,
+            Outcome::Stored => 0,
+            Outcome::Task(task) => task,
+            Outcome::Empty => 0,
+            Outcome::Abort => 0,
+            Outcome::Full => 0,
+            Outcome::End => 0,
+        }
+    }
+}
