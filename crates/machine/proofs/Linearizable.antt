@@ -1,13 +1,24 @@
--- What is shown of the claim of demand 3 by computation: the run of M2, whose margin is one short of the needed one, violates it, and
--- that of M3 satisfies it.
-use mathlib.Core.Path.{_≡_, refl}
-use mathlib.Core.List.{List, [], _∷_}
+-- What is proved of the claim of demand 3: it speaks of the list obeyed entry by entry; and by computation, the run of M2, whose margin is
+-- one short of the needed one, violates it, and that of M3 satisfies it.
+use mathlib.Core.Path.{_≡_, refl, ap}
+use mathlib.Core.List.{List, [], _∷_, map}
 use Prim.Native.Nat.{ℕ}
 use native.Mathlib.Omega.{arith}
-use Rattle.machine.specs.Types.{Outcome, Stored, Task, Abort}
+use Rattle.machine.specs.Types.{Entry, Machine, Outcome, Stored, Task, Abort}
 use Rattle.machine.specs.InRange.{inRange}
+use Rattle.machine.specs.Obey.{machineAfter, obey, outcomesOf}
+use Rattle.machine.specs.Effect.{Watch, events, watchAfter, watched}
 use Rattle.machine.specs.Linearizable.{Linearizable}
 use Rattle.machine.specs.Rehearsals.{entriesIn, m2, m2Sizes, m3, m3Sizes}
+
+-- the events have the outcomes of the list, and the watch ends at its machine
+pub events-outcomes : (w : Watch) (es : List Entry) → map (λ v. v .outcome) (events w es) ≡ outcomesOf (w .machine) es
+events-outcomes w [] = refl
+events-outcomes w (e ∷ es) = ap (λ l. obey (w .machine) e .outcome ∷ l) (events-outcomes (watchAfter w e) es)
+
+pub watched-machine : (w : Watch) (es : List Entry) → watched w es .machine ≡ machineAfter (w .machine) es
+watched-machine w [] = refl
+watched-machine w (e ∷ es) = watched-machine (watchAfter w e) es
 
 -- the thief answers TASK 11 where the plain queue, which has given 11 to the worker, has no task for it
 pub m2-violates : Linearizable m2Sizes (entriesIn m2) → ⊥

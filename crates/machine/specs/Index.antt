@@ -27,10 +27,14 @@ modulo (negsuc i) n = (n - 1) - (i % n)
 abbrev pub slotOf : ℕ → Index → ℕ
 slotOf n i = modulo (i .at) n
 
+-- not below the least, and not above the greatest that an index may be
+abbrev pub indexFrom : ℤ → Index → Bool
+indexFrom least i = leZ least (i .at) && leZ (i .at) (pos 2147483648)
+
 -- "−1 to 2,147,483,648"
 abbrev pub indexInRange : Index → Bool
-indexInRange i = leZ (negsuc 0) (i .at) && leZ (i .at) (pos 2147483648)
+indexInRange i = indexFrom (negsuc 0) i
 
 -- "a slot's from 0"
 abbrev pub slotIndexInRange : Index → Bool
-slotIndexInRange i = leZ (pos 0) (i .at) && leZ (i .at) (pos 2147483648)
+slotIndexInRange i = indexFrom (pos 0) i

@@ -36,7 +36,10 @@ fresh s =
 abbrev pub workerTail : Machine → Index
 workerTail m = newestTail (m .tail) (m .buffer)
 
--- what thieves load from the slot of an index: memory
+-- "Thieves load memory": the tail, and the slot of an index
+abbrev pub thiefTail : Machine → Index
+thiefTail m = m .tail
+
 abbrev pub thiefLoad : Machine → Index → ℕ
 thiefLoad m i = getD (m .slots) (slotOf (m .sizes .slots) i) 0
 

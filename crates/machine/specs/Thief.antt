@@ -7,7 +7,7 @@ use lib.Signed.{ltZ}
 use Rattle.machine.specs.Types.{Done, Index, Machine, Nobody, TheThief, Outcome, Moved, Place, Task, Abort, ThiefCall, StealLock, StealLoadHead, StealRaiseHead, StealLoadTail, StealLoadSlot, StealUnlockTask, StealRestoreHead, StealUnlockAbort}
 use Rattle.machine.specs.Sizes.{marginInUse}
 use Rattle.machine.specs.Index.{next}
-use Rattle.machine.specs.Machine.{done, lockIsFree, needing, thiefCall, thiefLoad, withHead, withLock, withThief}
+use Rattle.machine.specs.Machine.{done, lockIsFree, needing, thiefCall, thiefLoad, thiefTail, withHead, withLock, withThief}
 
 -- ── How a step ends ─────────────────────────────────────────────────────────────────────────────────────────────────────────
 
@@ -33,9 +33,9 @@ stealLoadHead i m = thiefGoesOn i (StealRaiseHead (m .head)) m
 abbrev pub stealRaiseHead : ℕ → Index → Machine → Done
 stealRaiseHead i h m = thiefGoesOn i (StealLoadTail h) (withHead (next h) m)
 
--- T − margin > h, for memory's tail T and the margin in use
+-- T − margin > h, for the tail T that a thief loads and the margin in use
 abbrev pub marginKept : Index → Machine → Bool
-marginKept h m = ltZ (h .at) (m .tail .at -ℤ pos (marginInUse (m .sizes)))
+marginKept h m = ltZ (h .at) (thiefTail m .at -ℤ pos (marginInUse (m .sizes)))
 
 -- (4) load tail T: where T − margin > h the slot is next, else head is put back
 abbrev pub stealLoadTail : ℕ → Index → Machine → Done

@@ -1,6 +1,6 @@
 use crate::test::both;
 ghost use mathlib.Core.Path.{_≡_};
-ghost use Rattle.machine.specs.Index.{indexInRange, slotIndexInRange};
+ghost use Rattle.machine.specs.Index.{indexFrom, indexInRange, slotIndexInRange};
 
 // A position of the queue: a value of head or tail, or the place of a task. It never wraps; a slot is found by its
 // remainder. -1 is a true value: a take from an empty queue that starts at 0 stores it as the tail.
@@ -9,19 +9,25 @@ pub struct Index {
 }
 
 impl Index {
+    // Whether it is neither below the least nor above the greatest that an index may be.
+    fn in_range_from(self, least: i64) -> bool
+        ensures { λ r. ⌜ r ≡ indexFrom least self ⌝ }
+    {
+        let at = self.at;
+        both(least <= at, at <= 2147483648)
+    }
+
     // Whether a machine may hold it as head, as tail or in a call.
     pub(crate) fn in_range(self) -> bool
         ensures { λ r. ⌜ r ≡ indexInRange self ⌝ }
     {
-        let at = self.at;
-        both(-1 <= at, at <= 2147483648)
+        self.in_range_from(-1)
     }
 
     // Whether a machine may hold it as the index of a slot.
     pub(crate) fn slot_in_range(self) -> bool
         ensures { λ r. ⌜ r ≡ slotIndexInRange self ⌝ }
     {
-        let at = self.at;
-        both(0 <= at, at <= 2147483648)
+        self.in_range_from(0)
     }
 }

@@ -1,8 +1,8 @@
 -- `needed_margin` meets its contract: the quotient is at most the buffer size, so it fits.
-use Prim.Native.Nat.{_+_}
+use native.Mathlib.Nat.{lt-of-le-of-lt}
 use native.Mathlib.Omega.{arith}
 use borrow.Author.Needs.{needs}
-use Rattle.machine.proofs.Laws.Sizes.{divideUp-le}
+use Rattle.machine.proofs.Laws.Sizes.{add-div-le}
 use Rattle.machine.proofs.sizes.needed_margin.Statement.{statement}
 use Rattle.machine.proofs.sizes.needed_margin.Tie as tie
 
@@ -19,7 +19,7 @@ div-result : tie.Need-div-result
 div-result c = search needs
 
 cast-result : tie.Need-cast-result
-cast-result c = record { fits = omega (arith, divideUp-le (c .args .buffer) (c .args .spacing)) }
+cast-result c = record { fits = lt-of-le-of-lt (add-div-le _ _ _ (omega arith)) (search needs) }
 
 returns : tie.Need-returns
 returns c = search needs
