@@ -20,23 +20,22 @@ pub watched-machine : (w : Watch) (es : List Entry) → watched w es .machine �
 watched-machine w [] = refl
 watched-machine w (e ∷ es) = watched-machine (watchAfter w e) es
 
--- the thief answers TASK 11 where the plain queue, which has given 11 to the worker, has no task for it
+-- three numbers have been handed out, 12, 11 and again 11, though two puts were STORED
 pub m2-violates : Linearizable m2Sizes (entriesIn m2) → ⊥
 unfolding inRange
 m2-violates l =
-    let e : _≡_ {A = List Outcome} (Task 11 ∷ []) (Abort ∷ []) = l .answers .1 .0 in
-    let z : _≡_ {A = ℕ} 0 1 = cc in
+    let e : _≡_ {A = ℕ} 3 2 = l .noOther in
     omega arith
 
--- each equation by the list that both of its sides compute to
+-- each equation by the list or number that both of its sides compute to
 pub m3-satisfies : Linearizable m3Sizes (entriesIn m3)
 unfolding inRange
 m3-satisfies =
     record {
-      answers = (λ i. Stored ∷ Stored ∷ Task 12 ∷ Task 11 ∷ [], (λ i. Abort ∷ [], tt));
-      held = (λ i. 12 ∷ 11 ∷ [], (λ i. [], tt));
+      answers = λ i. (Stored ∷ []) ∷ (Stored ∷ []) ∷ (Task 12 ∷ []) ∷ (Task 11 ∷ []) ∷ (Abort ∷ []) ∷ [];
+      held = λ i. [] ∷ [] ∷ [];
       limits = refl;
-      once = (refl, (refl, tt));
+      once = λ i. 1 ∷ 1 ∷ [];
       noOther = λ i. 2;
       standing = λ quiet i. [];
     }

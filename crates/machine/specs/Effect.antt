@@ -1,121 +1,186 @@
 -- Where a call takes effect, and a run watched beside the plain queue. Renders "A call takes effect at .." of "The machine" and "It is
--- told the calls that took effect, in the order of those entries" of "Demand 3's plain queue".
-use mathlib.Core.Bool.{Bool, true, cond, not}
-use mathlib.Core.List.{List, [], _∷_, map}
+-- told the calls that took effect, in the order of those entries, each put with its task number, and, as the step decides it, whether a
+-- put is FULL or a steal ABORT" of "Demand 3's plain queue".
+use mathlib.Core.Bool.{Bool, true, false, cond, not}
+use mathlib.Core.List.{List, [], _∷_, _++_, map}
 use Prim.Native.Nat.{ℕ}
 use lib.Dec.{eqb}
+use lib.Signed.{leZ}
 use Rattle.machine.specs.Types.{Entry, Drain, ClientStore, BeginPut, BeginTake, WorkerStep, BeginSteal, ThiefStep, Machine, Outcome, Sizes, ThiefCall, StealLock, StealLoadHead, StealRaiseHead, StealLoadTail, StealLoadSlot, StealUnlockTask, StealRestoreHead, StealUnlockAbort, WorkerCall, PutLoadHead, PutStoreSlot, PutStoreTail, TakeStoreTail, TakeLoadHead, TakeLoadSlot, TakeLock, TakeReloadHead, TakeRestoreTail, TakeUnlockEmpty, TakeUnlockTask, TakeLoadLastSlot}
-use Rattle.machine.specs.Lists.{all}
 use Rattle.machine.specs.Outcome.{isAnswer, isRefusal, numberOf}
 use Rattle.machine.specs.Machine.{fresh, thiefCall}
-use Rattle.machine.specs.Worker.{noThiefNear}
 use Rattle.machine.specs.Thief.{marginKept}
 use Rattle.machine.specs.Obey.{obey}
-use Rattle.machine.specs.PlainQueue.{Call, putCall, takeCall, stealCall, PlainQueue, Reply, emptyQueue, respond, withinLimits}
+use Rattle.machine.specs.PlainQueue.{Call, putCall, takeCall, stealCall, PlainQueue, Reply, emptyQueue, respond}
 
--- ── Effects: lists of at most one call ──────────────────────────────────────────────────────────────────────────────────────
+-- ── Effects ─────────────────────────────────────────────────────────────────────────────────────────────────────────────────
 
--- the step's outcome decides whether a put is FULL
-abbrev pub toldFull : Outcome → Bool
-toldFull o = eqb (numberOf o) 20
+-- Whether the running call takes effect at an entry, and then whether the step decides that it is FULL or ABORT.
+pub data Effect : Type 0 where
+  none : Effect
+  decided : Bool → Effect
 
--- A put of the number x at step 3, and at step 1 where it ends there (FULL and END); a take at step 2 where t ≥ h, otherwise at step 4.
--- The outcome is that of the step.
-abbrev pub workerEffect : ℕ → Outcome → Machine → WorkerCall → List Call
-workerEffect x o m WorkerCall.Idle = []
-workerEffect x o m (PutLoadHead y) = cond (isAnswer o) (putCall x (toldFull o) ∷ []) []
-workerEffect x o m (PutStoreSlot y) = []
-workerEffect x o m PutStoreTail = putCall x (toldFull o) ∷ []
-workerEffect x o m TakeStoreTail = []
-workerEffect x o m (TakeLoadHead t) = cond (noThiefNear t m) (takeCall ∷ []) []
-workerEffect x o m (TakeLoadSlot t) = []
-workerEffect x o m (TakeLock t) = []
-workerEffect x o m (TakeReloadHead t) = takeCall ∷ []
-workerEffect x o m (TakeRestoreTail t) = []
-workerEffect x o m TakeUnlockEmpty = []
-workerEffect x o m (TakeUnlockTask t) = []
-workerEffect x o m (TakeLoadLastSlot t) = []
+-- an effect that is there only where the test passes
+abbrev pub onlyWhere : Bool → Bool → Effect
+onlyWhere there full = cond there (decided full) none
 
--- a steal at step 4, which decides whether it is ABORT
-abbrev pub thiefEffect : Machine → ThiefCall → List Call
-thiefEffect m ThiefCall.Idle = []
-thiefEffect m StealLock = []
-thiefEffect m StealLoadHead = []
-thiefEffect m (StealRaiseHead h) = []
-thiefEffect m (StealLoadTail h) = stealCall (not (marginKept h m)) ∷ []
-thiefEffect m (StealLoadSlot h) = []
-thiefEffect m (StealUnlockTask x) = []
-thiefEffect m (StealRestoreHead h) = []
-thiefEffect m StealUnlockAbort = []
+abbrev pub isFullOutcome : Outcome → Bool
+isFullOutcome o = eqb (numberOf o) 20
 
-abbrev pub stepEffect : ℕ → Outcome → Machine → Entry → List Call
-stepEffect x o m Drain = []
-stepEffect x o m ClientStore = []
-stepEffect x o m (BeginPut y) = []
-stepEffect x o m BeginTake = []
-stepEffect x o m WorkerStep = workerEffect x o m (m .worker .call)
-stepEffect x o m (BeginSteal i) = []
-stepEffect x o m (ThiefStep i) = thiefEffect m (thiefCall m i)
+-- a put at step 3, or at step 1 where it ends there, which is FULL or END; a take at step 2 where t ≥ h, otherwise at step 4; the outcome
+-- is that of the step
+abbrev pub workerEffect : Outcome → Machine → WorkerCall → Effect
+workerEffect o m WorkerCall.Idle = none
+workerEffect o m (PutLoadHead x) = onlyWhere (isAnswer o) (isFullOutcome o)
+workerEffect o m (PutStoreSlot x) = none
+workerEffect o m PutStoreTail = decided false
+workerEffect o m TakeStoreTail = none
+workerEffect o m (TakeLoadHead t) = onlyWhere (leZ (m .head .at) (t .at)) false
+workerEffect o m (TakeLoadSlot t) = none
+workerEffect o m (TakeLock t) = none
+workerEffect o m (TakeReloadHead t) = decided false
+workerEffect o m (TakeRestoreTail t) = none
+workerEffect o m TakeUnlockEmpty = none
+workerEffect o m (TakeUnlockTask t) = none
+workerEffect o m (TakeLoadLastSlot t) = none
 
--- the call that takes effect at an entry, where x is the number that the worker's last put was begun with; "entries that get 5, 6 or 7
--- stand in it like the others, and the plain queue isn't told of them"
-abbrev pub effect : ℕ → Machine → Entry → List Call
-effect x m e = cond (isRefusal (obey m e .outcome)) [] (stepEffect x (obey m e .outcome) m e)
+-- a steal at step 4
+abbrev pub thiefEffect : Machine → ThiefCall → Effect
+thiefEffect m ThiefCall.Idle = none
+thiefEffect m StealLock = none
+thiefEffect m StealLoadHead = none
+thiefEffect m (StealRaiseHead h) = none
+thiefEffect m (StealLoadTail h) = decided (not (marginKept h m))
+thiefEffect m (StealLoadSlot h) = none
+thiefEffect m (StealUnlockTask x) = none
+thiefEffect m (StealRestoreHead h) = none
+thiefEffect m StealUnlockAbort = none
+
+abbrev pub effectOf : Outcome → Machine → Entry → Effect
+effectOf o m Drain = none
+effectOf o m ClientStore = none
+effectOf o m (BeginPut x) = none
+effectOf o m BeginTake = none
+effectOf o m WorkerStep = workerEffect o m (m .worker .call)
+effectOf o m (BeginSteal i) = none
+effectOf o m (ThiefStep i) = thiefEffect m (thiefCall m i)
+
+-- "entries that get 5, 6 or 7 stand in it like the others, and the plain queue isn't told of them"
+abbrev pub effect : Machine → Entry → Effect
+effect m e = cond (isRefusal (obey m e .outcome)) none (effectOf (obey m e .outcome) m e)
+
+-- ── Calls, as their entries begin and end them ──────────────────────────────────────────────────────────────────────────────
+
+pub data Party : Type 0 where
+  worker : Party
+  thief : ℕ → Party
+
+-- whose entry it is; a drain is the worker's, and never has an answer
+abbrev pub partyOf : Entry → Party
+partyOf Drain = worker
+partyOf ClientStore = worker
+partyOf (BeginPut x) = worker
+partyOf BeginTake = worker
+partyOf WorkerStep = worker
+partyOf (BeginSteal i) = thief i
+partyOf (ThiefStep i) = thief i
+
+abbrev pub sameParty : Party → Party → Bool
+sameParty worker worker = true
+sameParty worker (thief j) = false
+sameParty (thief i) worker = false
+sameParty (thief i) (thief j) = eqb i j
+
+-- What was begun.
+pub data Begun : Type 0 where
+  nothing : Begun
+  aPut : ℕ → Begun
+  aTake : Begun
+  aSteal : Begun
+
+abbrev pub begunBy : Entry → Begun
+begunBy Drain = nothing
+begunBy ClientStore = nothing
+begunBy (BeginPut x) = aPut x
+begunBy BeginTake = aTake
+begunBy WorkerStep = nothing
+begunBy (BeginSteal i) = aSteal
+begunBy (ThiefStep i) = nothing
+
+-- A party's call: what was begun, and what the plain queue has replied to it since.
+pub record PartyCall : Type 0 where
+  pub begun : Begun
+  pub replies : List Reply
+
+abbrev pub noCall : PartyCall
+noCall = record { begun = nothing; replies = [] }
+
+-- the call goes on, unless an entry begins another
+abbrev pub orBegun : PartyCall → Begun → PartyCall
+orBegun c nothing = c
+orBegun c (aPut x) = record { begun = aPut x; replies = [] }
+orBegun c aTake = record { begun = aTake; replies = [] }
+orBegun c aSteal = record { begun = aSteal; replies = [] }
+
+-- a party's call after an entry of its own: an answer ends it, and a refusal changes nothing
+abbrev pub callAfter : PartyCall → Outcome → Entry → PartyCall
+callAfter c o e = cond (isAnswer o) noCall (cond (isRefusal o) c (orBegun c (begunBy e)))
+
+-- what the plain queue is told at an effect: the call that was begun
+abbrev pub callToldOf : Begun → Bool → List Call
+callToldOf nothing d = []
+callToldOf (aPut x) d = putCall x d ∷ []
+callToldOf aTake d = takeCall ∷ []
+callToldOf aSteal d = stealCall d ∷ []
+
+abbrev pub tell : Begun → Effect → List Call
+tell b none = []
+tell b (decided d) = callToldOf b d
 
 -- ── A run watched ───────────────────────────────────────────────────────────────────────────────────────────────────────────
 
--- The machine, the plain queue beside it, and the number that the worker's last put was begun with.
+-- The machine, the plain queue beside it, and each party's call.
 pub record Watch : Type 0 where
   pub machine : Machine
   pub queue : PlainQueue
-  pub number : ℕ
+  pub calls : Party → PartyCall
 
 abbrev pub watchFresh : Sizes → Watch
-watchFresh s = record { machine = fresh s; queue = emptyQueue (s .start); number = 0 }
+watchFresh s = record { machine = fresh s; queue = emptyQueue (s .start); calls = λ p. noCall }
 
--- the number that the last put was begun with, after an entry with this outcome
-abbrev pub numberAfter : ℕ → Outcome → Entry → ℕ
-numberAfter x o Drain = x
-numberAfter x o ClientStore = x
-numberAfter x o (BeginPut y) = cond (isRefusal o) x y
-numberAfter x o BeginTake = x
-numberAfter x o WorkerStep = x
-numberAfter x o (BeginSteal i) = x
-numberAfter x o (ThiefStep i) = x
+-- what the plain queue is told at an entry: at most one call
+abbrev pub toldAt : Watch → Entry → List Call
+toldAt w e = tell (w .calls (partyOf e) .begun) (effect (w .machine) e)
+
+abbrev pub repliesAt : Watch → Entry → List Reply
+repliesAt w e = map (respond (w .queue)) (toldAt w e)
+
+-- the call of the entry's party, with the reply at the entry
+abbrev pub callAt : Watch → Entry → PartyCall
+callAt w e = record { begun = w .calls (partyOf e) .begun; replies = w .calls (partyOf e) .replies ++ repliesAt w e }
 
 -- the queue after its replies
 abbrev pub queueAfter : PlainQueue → List Reply → PlainQueue
 queueAfter q [] = q
 queueAfter q (r ∷ rs) = queueAfter (r .queue) rs
 
--- the plain queue's replies at an entry
-abbrev pub repliesAt : Watch → Entry → List Reply
-repliesAt w e = map (respond (w .queue)) (effect (w .number) (w .machine) e)
-
 abbrev pub watchAfter : Watch → Entry → Watch
 watchAfter w e =
     record {
       machine = obey (w .machine) e .machine;
       queue = queueAfter (w .queue) (repliesAt w e);
-      number = numberAfter (w .number) (obey (w .machine) e .outcome) e;
+      calls = λ p. cond (sameParty p (partyOf e)) (callAfter (callAt w e) (obey (w .machine) e .outcome) e) (w .calls p);
     }
 
--- What can be seen of an entry: itself, its outcome, the plain queue's reply to the call that took effect at it, if one did, and whether
--- the plain queue was told that within its limits.
+-- What there is to see of an entry: its outcome, the call of its party, and what the plain queue was told, with the queue just before.
 pub record Event : Type 0 where
-  pub entry : Entry
   pub outcome : Outcome
-  pub replies : List Reply
-  pub lawful : Bool
+  pub call : PartyCall
+  pub told : List Call
+  pub queue : PlainQueue
 
 abbrev pub eventAt : Watch → Entry → Event
-eventAt w e =
-    record {
-      entry = e;
-      outcome = obey (w .machine) e .outcome;
-      replies = repliesAt w e;
-      lawful = all (withinLimits (w .machine .sizes .slots) (w .queue)) (effect (w .number) (w .machine) e);
-    }
+eventAt w e = record { outcome = obey (w .machine) e .outcome; call = callAt w e; told = toldAt w e; queue = w .queue }
 
 abbrev pub watched : Watch → List Entry → Watch
 watched w [] = w

@@ -15,6 +15,7 @@ next i = record { at = i .at +ℤ pos 1 }
 abbrev pub previous : Index → Index
 previous i = record { at = i .at -ℤ pos 1 }
 
+-- two integers are equal
 abbrev pub eqZ : ℤ → ℤ → Bool
 eqZ a b = leZ a b && leZ b a
 

@@ -1,4 +1,4 @@
--- What the bench's promises say. Reading order: that of the lines below, which is the paper's.
+-- What the bench's promises say, in reading order. A quotation is from the scope paper, 01, and so is a section's name.
 pub mod Types
 pub mod Lists
 pub mod Sizes

@@ -1,62 +1,36 @@
 -- Demand 3: with enough margin, for every list of entries, every answer is that of the plain queue, and no task is lost or given twice.
 -- Renders the two last paragraphs of "Demand 3's plain queue". The claim is stated here; `proofs/` has what is proved of it.
 use mathlib.Core.Path.{_≡_}
-use mathlib.Core.Bool.{Bool, true, false, cond, not, _&&_}
+use mathlib.Core.Bool.{Bool, true, false, cond}
 use mathlib.Core.List.{List, [], _∷_, _++_, map}
-use Prim.Native.Nat.{ℕ, zero, suc, _+_, _≤_, _^_}
-use lib.Dec.{T, eqb, ltb}
+use Prim.Native.Nat.{ℕ, _+_, _≤_, _^_}
+use lib.Dec.{ltb}
 use lib.IntN.{ℤ, pos, negsuc, _+ℤ_, _-ℤ_}
-use lib.ListN.{length}
-use Rattle.machine.specs.Types.{Entry, Drain, ClientStore, BeginPut, BeginTake, WorkerStep, BeginSteal, ThiefStep, Index, Machine, Outcome, Moved, Place, Early, Wait, Stored, Task, Empty, Abort, Full, End, Sizes, ThiefCall, StealLock, StealLoadHead, StealRaiseHead, StealLoadTail, StealLoadSlot, StealUnlockTask, StealRestoreHead, StealUnlockAbort, WorkerCall, PutLoadHead, PutStoreSlot, PutStoreTail, TakeStoreTail, TakeLoadHead, TakeLoadSlot, TakeLock, TakeReloadHead, TakeRestoreTail, TakeUnlockEmpty, TakeUnlockTask, TakeLoadLastSlot}
-use Rattle.machine.specs.Lists.{all, Every, gather, upTo, occurrences}
+use lib.ListN.{length, replicate}
+use Rattle.machine.specs.Types.{Entry, Drain, ClientStore, BeginPut, BeginTake, WorkerStep, BeginSteal, ThiefStep, Machine, Outcome, Moved, Place, Early, Wait, Stored, Task, Empty, Abort, Full, End, Sizes, ThiefCall, StealLock, StealLoadHead, StealRaiseHead, StealLoadTail, StealLoadSlot, StealUnlockTask, StealRestoreHead, StealUnlockAbort, WorkerCall, PutLoadHead, PutStoreSlot, PutStoreTail, TakeStoreTail, TakeLoadHead, TakeLoadSlot, TakeLock, TakeReloadHead, TakeRestoreTail, TakeUnlockEmpty, TakeUnlockTask, TakeLoadLastSlot}
+use Rattle.machine.specs.Lists.{all, gather, occurrences, upTo}
 use Rattle.machine.specs.Sizes.{enoughMargin, sizesInRange}
 use Rattle.machine.specs.Outcome.{isAnswer}
-use Rattle.machine.specs.Machine.{thiefCall, thiefLoad, workerLoad, workerTail}
-use Rattle.machine.specs.Worker.{workerRuns}
-use Rattle.machine.specs.Thief.{thiefRuns}
-use Rattle.machine.specs.Obey.{thiefIsThere}
-use Rattle.machine.specs.PlainQueue.{StoredTask}
-use Rattle.machine.specs.Effect.{Event, Watch, events, watchFresh, watched}
+use Rattle.machine.specs.Machine.{fresh, thiefCall, thiefLoad, workerLoad, workerTail}
+use Rattle.machine.specs.Obey.{outcomesOf, thiefIsThere}
+use Rattle.machine.specs.PlainQueue.{StoredTask, withinLimits}
+use Rattle.machine.specs.Effect.{Begun, nothing, aPut, aTake, aSteal, Event, Party, worker, thief, PartyCall, Watch, events, watchFresh, watched}
 
--- ── Parties ─────────────────────────────────────────────────────────────────────────────────────────────────────────────────
-
-pub data Party : Type 0 where
-  worker : Party
-  thief : ℕ → Party
-
--- whose entry it is; a drain is the worker's, and never has an answer
-abbrev pub partyOf : Entry → Party
-partyOf Drain = worker
-partyOf ClientStore = worker
-partyOf (BeginPut x) = worker
-partyOf BeginTake = worker
-partyOf WorkerStep = worker
-partyOf (BeginSteal i) = thief i
-partyOf (ThiefStep i) = thief i
-
-abbrev pub sameParty : Party → Party → Bool
-sameParty worker worker = true
-sameParty worker (thief j) = false
-sameParty (thief i) worker = false
-sameParty (thief i) (thief j) = eqb i j
+-- ── What the plain queue has to do with a call ──────────────────────────────────────────────────────────────────────────────
 
 abbrev pub parties : Sizes → List Party
 parties s = worker ∷ map thief (upTo (s .thieves))
 
--- ── What the events show of a party ─────────────────────────────────────────────────────────────────────────────────────────
+-- the plain queue's answers to a call, and the tasks that it gave it
+abbrev pub answersTo : PartyCall → List Outcome
+answersTo c = map (λ r. r .answer) (c .replies)
 
-abbrev pub answerIn : Event → List Outcome
-answerIn v = cond (isAnswer (v .outcome)) (v .outcome ∷ []) []
+abbrev pub givenTo : PartyCall → List StoredTask
+givenTo c = gather (λ r. r .given) (c .replies)
 
-abbrev pub repliesIn : Event → List Outcome
-repliesIn v = map (λ r. r .answer) (v .replies)
-
-abbrev pub givenIn : Event → List StoredTask
-givenIn v = gather (λ r. r .given) (v .replies)
-
--- what the party's events show, one after the other
-abbrev pub ofParty : {A : Type 0} → Party → (Event → List A) → List Event → List A
-ofParty p f h = gather (λ v. cond (sameParty p (partyOf (v .entry))) (f v) []) h
+-- the events that answer a call
+abbrev pub answering : List Event → List Event
+answering h = gather (λ v. cond (isAnswer (v .outcome)) (v ∷ []) []) h
 
 -- ── What a running call past its effect is going to answer ──────────────────────────────────────────────────────────────────
 
@@ -105,47 +79,63 @@ taskIn Abort = []
 taskIn Full = []
 taskIn End = []
 
+-- ── Where a task is ─────────────────────────────────────────────────────────────────────────────────────────────────────────
+
+-- the plain queue's account: the tasks given to calls that have answered, those given to running calls, and those that stand
+abbrev pub tasksOf : Sizes → List Event → Watch → List StoredTask
+tasksOf s h w = gather (λ v. givenTo (v .call)) (answering h) ++ gather (λ p. givenTo (w .calls p)) (parties s) ++ w .queue .tasks
+
+-- the machine's account: the numbers that calls have answered, and those that running calls owe
+abbrev pub numbersHandedOut : Sizes → List Event → Watch → List ℕ
+numbersHandedOut s h w = gather (λ v. taskIn (v .outcome)) h ++ gather taskIn (gather (owes (w .machine)) (parties s))
+
 -- ── Where no call runs ──────────────────────────────────────────────────────────────────────────────────────────────────────
 
-abbrev pub noCallRuns : Machine → Bool
-noCallRuns m = not (workerRuns (m .worker .call)) && all (λ t. not (thiefRuns (t .call))) (m .thieves)
+abbrev pub isNothing : Begun → Bool
+isNothing nothing = true
+isNothing (aPut x) = false
+isNothing aTake = false
+isNothing aSteal = false
 
--- how many indices there are from one up to another, without that one
-abbrev pub distance : ℤ → ℕ
-distance (pos n) = n
-distance (negsuc n) = 0
+abbrev pub noCallRuns : Sizes → Watch → Bool
+noCallRuns s w = all (λ p. isNothing (w .calls p .begun)) (parties s)
+
+-- a difference of two indices as a number of steps up, which is none where it is negative
+abbrev pub stepsUp : ℤ → ℕ
+stepsUp (pos n) = n
+stepsUp (negsuc n) = 0
 
 -- what the worker would load from the slots of head up to its tail − 1
 abbrev pub standingInSlots : Machine → List ℕ
 standingInSlots m =
     map (λ k. workerLoad m (record { at = m .head .at +ℤ pos k }))
-    (upTo (distance (workerTail m .at -ℤ m .head .at)))
+    (upTo (stepsUp (workerTail m .at -ℤ m .head .at)))
 
 -- ── The claim ───────────────────────────────────────────────────────────────────────────────────────────────────────────────
 
--- Each part of the claim, of the events h of a run and of the watch w at its end. Each prefix of a list is a list, so what is claimed at
--- the end of every list is claimed at every moment.
+-- Each part of the claim, of the events h of a run and of the watch w at its end. Each beginning of a list is a list, so what is claimed
+-- at the end of every list is claimed at every moment.
 pub record Linearizes (s : Sizes) (h : List Event) (w : Watch) : Type 0 where
-  -- "Each answer, 16 to 21 with its value, equals the plain queue's answer to the same call": a party's answers, and then what its
-  -- running call owes if that is past its effect, are the plain queue's answers to that party's calls, in order.
-  pub answers : Every (λ p. ofParty p answerIn h ++ owes (w .machine) p ≡ ofParty p repliesIn h) (parties s)
+  -- "Each answer, 16 to 21 with its value, equals the plain queue's answer to the same call": of each call that has answered, the plain
+  -- queue's answers to it since it began are that one answer.
+  pub answers : map (λ v. answersTo (v .call)) (answering h) ≡ map (λ v. v .outcome ∷ []) (answering h)
   -- "A call is given the task that left the list at its effect. It holds that task before it has answered, and what it loads from the
-  -- slot is what that task's put stored there."
-  pub held : Every (λ p. gather taskIn (ofParty p answerIn h ++ owes (w .machine) p) ≡ map (λ t. t .number) (ofParty p givenIn h)) (parties s)
-  -- "What it is told has limits": each was kept.
-  pub limits : all (λ v. v .lawful) h ≡ true
-  -- "no block is lost or given twice": of the puts that were STORED, each one's task was given to one call or stands, and not both ..
-  pub once : Every (λ k. occurrences k (map (λ t. t .put) (gather givenIn h ++ w .queue .tasks)) ≡ 1) (upTo (w .queue .stored))
-  -- .. and no other task was given or stands.
-  pub noOther : length (gather givenIn h ++ w .queue .tasks) ≡ w .queue .stored
+  -- slot is what that task's put stored there": what each running call owes is what the plain queue has answered to it, if anything.
+  pub held : map (λ p. answersTo (w .calls p)) (parties s) ≡ map (owes (w .machine)) (parties s)
+  -- "What it is told has limits, counted just before the call acts": each was kept.
+  pub limits : all (λ v. all (withinLimits (s .slots) (v .queue)) (v .told)) h ≡ true
+  -- Each STORED put's task was given to one call, or stands, and not both: it is told apart by its put, and stands once in the account.
+  pub once : map (λ k. occurrences k (map (λ t. t .put) (tasksOf s h w))) (upTo (w .queue .stored)) ≡ replicate (w .queue .stored) 1
+  -- The machine's account has no other: as many numbers were handed out as puts were STORED and do not stand.
+  pub noOther : length (numbersHandedOut s h w) + length (w .queue .tasks) ≡ w .queue .stored
   -- "Where no call runs, the numbers of the tasks that stand are, oldest first, what the worker would load from the slots of head up to
   -- its tail − 1."
-  pub standing : noCallRuns (w .machine) ≡ true → map (λ t. t .number) (w .queue .tasks) ≡ standingInSlots (w .machine)
+  pub standing : noCallRuns s w ≡ true → map (λ t. t .number) (w .queue .tasks) ≡ standingInSlots (w .machine)
 
 abbrev pub Linearizable : Sizes → List Entry → Type 0
 Linearizable s es = Linearizes s (events (watchFresh s) es) (watched (watchFresh s) es)
 
--- an entry of a schedule: a put's number has 32 bits, and a thief is there
+-- an entry with an allowed operand: a put's number has 32 bits, and a thief is there
 abbrev pub isAllowed : Sizes → Entry → Bool
 isAllowed s Drain = true
 isAllowed s ClientStore = true
@@ -164,3 +154,37 @@ Demand3 =
     → length es ≤ 4096
     → all (isAllowed s) es ≡ true
     → Linearizable s es
+
+-- ── Numbers ─────────────────────────────────────────────────────────────────────────────────────────────────────────────────
+
+-- "Tasks are told apart by their put, so equal numbers are different tasks": no step depends on a number. Where the puts of a list are
+-- numbered anew, with 0 for 0, the answers are those of the list, numbered anew. So what holds of a list whose puts are all numbered
+-- apart, where an answer's number names one put, holds of every list.
+
+abbrev pub renumberEntry : (ℕ → ℕ) → Entry → Entry
+renumberEntry f Drain = Drain
+renumberEntry f ClientStore = ClientStore
+renumberEntry f (BeginPut x) = BeginPut (f x)
+renumberEntry f BeginTake = BeginTake
+renumberEntry f WorkerStep = WorkerStep
+renumberEntry f (BeginSteal i) = BeginSteal i
+renumberEntry f (ThiefStep i) = ThiefStep i
+
+abbrev pub renumberOutcome : (ℕ → ℕ) → Outcome → Outcome
+renumberOutcome f Moved = Moved
+renumberOutcome f Place = Place
+renumberOutcome f Early = Early
+renumberOutcome f Wait = Wait
+renumberOutcome f Stored = Stored
+renumberOutcome f (Task x) = Task (f x)
+renumberOutcome f Empty = Empty
+renumberOutcome f Abort = Abort
+renumberOutcome f Full = Full
+renumberOutcome f End = End
+
+abbrev pub BlindToNumbers : Type 0
+BlindToNumbers =
+    (f : ℕ → ℕ)
+    → f 0 ≡ 0
+    → (s : Sizes) (es : List Entry)
+    → outcomesOf (fresh s) (map (renumberEntry f) es) ≡ map (renumberOutcome f) (outcomesOf (fresh s) es)

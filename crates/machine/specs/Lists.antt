@@ -10,22 +10,18 @@ module _ {A : Type 0} where
   all f [] = true
   all f (x ∷ l) = f x && all f l
 
-  -- the type is inhabited at every element
-  abbrev pub Every : (A → Type 0) → List A → Type 0
-  Every P [] = Unit {0}
-  Every P (x ∷ l) = P x × Every P l
-
 module _ {A B : Type 0} where
   -- the lists of all elements, one after the other
   abbrev pub gather : (A → List B) → List A → List B
   gather f [] = []
   gather f (x ∷ l) = f x ++ gather f l
 
--- 0 up to n, without n
+-- n numbers, from k up
 abbrev pub upFrom : ℕ → ℕ → List ℕ
 upFrom k zero = []
 upFrom k (suc n) = k ∷ upFrom (suc k) n
 
+-- 0 up to n, without n
 abbrev pub upTo : ℕ → List ℕ
 upTo n = upFrom 0 n
 

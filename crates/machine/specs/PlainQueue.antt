@@ -49,10 +49,10 @@ joined x q =
       given = [];
     }
 
--- a task leaves and the queue is the one that is named; where there is none to leave, nothing changes and the answer is the one that is named
+-- of a list of at most one, the task leaves, and `after` is the queue without it; where there is none, the answer is `otherwise`
 abbrev pub leaves : List StoredTask → PlainQueue → PlainQueue → Outcome → Reply
-leaves [] after q none = unchanged q none
-leaves (t ∷ ts) after q none = record { queue = after; answer = Task (t .number); given = t ∷ [] }
+leaves [] after q otherwise = unchanged q otherwise
+leaves (t ∷ ts) after q otherwise = record { queue = after; answer = Task (t .number); given = t ∷ [] }
 
 -- the newest task, in a list of at most one, and the tasks without it
 abbrev pub newest : List StoredTask → List StoredTask
@@ -61,8 +61,8 @@ newest l = drop (length l - 1) l
 abbrev pub withoutNewest : List StoredTask → List StoredTask
 withoutNewest l = take (length l - 1) l
 
--- END exactly when the sum is 2,147,483,647; EMPTY exactly when no task stands. A steal that is told neither ABORT nor a task breaks a
--- limit below; the queue answers it ABORT.
+-- END exactly when the sum is 2,147,483,647; EMPTY exactly when no task stands. A steal that is not told ABORT while no task stands breaks
+-- a limit below; the queue answers it ABORT all the same.
 abbrev pub respond : PlainQueue → Call → Reply
 respond q (putCall x full) = cond (eqb (q .sum) 2147483647) (unchanged q End) (cond full (unchanged q Full) (joined x q))
 respond q takeCall = leaves (newest (q .tasks)) (record { tasks = withoutNewest (q .tasks); sum = q .sum - 1; stored = q .stored }) q Empty

@@ -20,20 +20,22 @@ use Rattle.machine.specs.Effect.{Watch, watchAfter, watchFresh}
 
 -- ── Rows ────────────────────────────────────────────────────────────────────────────────────────────────────────────────────
 
--- A line of a story: an entry with what it comes to, or a look at memory's head, at memory's tail or at how many tasks stand.
+-- A line of a story: an entry with what it comes to, or a look at memory's head, at memory's tail, at the spacing count or at how many
+-- tasks stand.
 pub data Line : Type 0 where
   does : Entry → Outcome → Line
   headIs : ℤ → Line
   tailIs : ℤ → Line
-  standing : ℕ → Line
+  countIs : ℕ → Line
+  tasksStand : ℕ → Line
 
 pub data Row : Type 0 where
   -- the needed margin of a buffer size and a spacing
   margin : (buffer spacing needed : ℕ) → Row
   -- a story that starts at the fresh machine
   story : Sizes → List Line → Row
-  -- a machine in range that the entry leads out of range, so that the next operation answers 7
-  brink : Machine → Entry → Row
+  -- a machine in range that the entry, with this outcome, leads out of range, so that the next operation answers 7
+  brink : Machine → Entry → Outcome → Row
 
 abbrev pub sameOutcome : Outcome → Outcome → Bool
 sameOutcome o p = eqb (numberOf o) (numberOf p) && eqb (valueOf o) (valueOf p)
@@ -43,19 +45,25 @@ tells w [] = true
 tells w (does e o ∷ l) = sameOutcome (obey (w .machine) e .outcome) o && tells (watchAfter w e) l
 tells w (headIs z ∷ l) = eqZ (w .machine .head .at) z && tells w l
 tells w (tailIs z ∷ l) = eqZ (w .machine .tail .at) z && tells w l
-tells w (standing n ∷ l) = eqb (length (w .queue .tasks)) n && tells w l
+tells w (countIs n ∷ l) = eqb (w .machine .since) n && tells w l
+tells w (tasksStand n ∷ l) = eqb (length (w .queue .tasks)) n && tells w l
 
 abbrev pub holds : Row → Bool
 holds (margin b s n) = eqb (neededMargin b s) n
 holds (story s l) = tells (watchFresh s) l
-holds (brink m e) = inRange m && not (inRange (obey m e .machine)) && sameOutcome (obey (obey m e .machine) Drain .outcome) Wait
+holds (brink m e o) =
+    inRange m
+    && sameOutcome (obey m e .outcome) o
+    && not (inRange (obey m e .machine))
+    && sameOutcome (obey (obey m e .machine) Drain .outcome) Wait
 
 -- the entries of a story
 abbrev pub entryIn : Line → List Entry
 entryIn (does e o) = e ∷ []
 entryIn (headIs z) = []
 entryIn (tailIs z) = []
-entryIn (standing n) = []
+entryIn (countIs n) = []
+entryIn (tasksStand n) = []
 
 abbrev pub entriesIn : List Line → List Entry
 entriesIn l = gather entryIn l
@@ -129,26 +137,36 @@ m3 = twoTakesThenSteal Abort ++ headIs (pos 0) ∷ []
 
 -- M4: of two slots one is left free. FULL comes with slots − 1 tasks standing.
 abbrev pub m4 : List Line
-m4 = puts 1 ++ standing 1 ∷ putEnds 2 Full
+m4 = puts 1 ++ tasksStand 1 ∷ putEnds 2 Full
 
--- M5: a thief has raised head and does not know yet whether it steals. STORED comes with slots − 1 tasks standing.
-abbrev pub m5 : List Line
-m5 =
-    puts 1 ++ drains 2 ++ does (BeginSteal 0) Moved ∷ thiefMoves 3
-    ++ headIs (pos 1) ∷ standing 1 ∷ puts 2
-    ++ standing 2 ∷ putEnds 3 Full
-    ++ thiefMoves 2 ++ thiefEnds Abort ++ headIs (pos 0) ∷ []
+-- M5: a thief has raised head and not put it back, after its step 3 or after its step 4. STORED comes with slots − 1 tasks standing, and
+-- FULL with as many as there are slots.
+abbrev pub m5 : ℕ → List Line
+m5 made =
+    puts 1 ++ drains 2 ++ does (BeginSteal 0) Moved ∷ thiefMoves made
+    ++ headIs (pos 1) ∷ tasksStand 1 ∷ puts 2
+    ++ tasksStand 2 ∷ putEnds 3 Full
+    ++ thiefMoves (5 - made) ++ thiefEnds Abort ++ headIs (pos 0) ∷ []
 
--- M6: a take from an empty queue; the tail goes to −1 and back
+-- M6: a take from an empty queue; the tail goes to −1 and back. Lock and unlock wait for the drain.
 abbrev pub m6 : List Line
 m6 =
-    does BeginTake Moved ∷ workerMoves 2 ++ drains 1
-    ++ tailIs (negsuc 0) ∷ workerMoves 3 ++ drains 1
+    does BeginTake Moved ∷ workerMoves 2 ++ workerEnds Wait ++ drains 1
+    ++ tailIs (negsuc 0) ∷ workerMoves 3 ++ workerEnds Wait ++ drains 1
     ++ tailIs (pos 0) ∷ workerEnds Empty
 
--- M8: the next take must wait for a client store
+-- M7: the last index, and the one before it
+abbrev pub m7 : List Line
+m7 = putEnds 1 End
+
+abbrev pub m7Before : List Line
+m7Before = puts 1 ++ putEnds 2 End
+
+-- M8: the next take must wait for a client store. One made before the first take does not count.
 abbrev pub m8 : List Line
-m8 = puts 1 ++ takes 1 ++ does BeginTake Early ∷ clientStores 1 ++ does BeginTake Moved ∷ []
+m8 =
+    clientStores 1 ++ countIs 0 ∷ puts 1 ++ drains 3 ++ takes 1 ++ does BeginTake Early ∷ clientStores 1
+    ++ countIs 1 ∷ does BeginTake Moved ∷ countIs 0 ∷ []
 
 -- M9: one task, and the lock is a thief's when the worker wants it; the worker's tail store has drained, so the lock is all that it
 -- waits for
@@ -163,7 +181,7 @@ m9 =
 abbrev pub exampleLines : List Line
 exampleLines = does (BeginPut 7) Moved ∷ workerMoves 2 ++ does WorkerStep Wait ∷ drains 1 ++ workerEnds Stored
 
--- "Rounding the needed margin down: buffer 33, spacing 1 gives 16": 17 takes are pending at once, each with a client store after it
+-- "Rounding the needed margin down: buffer 33, spacing 1 gives 16": 17 takes are pending at once, with a client store between each two
 abbrev pub seventeenTakesThenSteal : Outcome → List Line
 seventeenTakesThenSteal o = filled 17 ++ takes 17 ++ gather (λ k. clientStores 1 ++ takes (17 - k)) (upFrom 1 16) ++ steals o
 
@@ -185,19 +203,53 @@ workerSeesPending = puts 1 ++ puts 2 ++ tailIs (pos 0) ∷ takes 2 ++ takes 1 ++
 abbrev pub tailAtMargin : List Line
 tailAtMargin = filled 1 ++ steals Abort ++ puts 2 ++ drains 2 ++ steals (Task 1)
 
+-- "An unsigned tail": head is ahead of the tail, since a thief has raised it over an empty queue
+abbrev pub headAheadOfTail : List Line
+headAheadOfTail = does (BeginSteal 0) Moved ∷ thiefMoves 3 ++ headIs (pos 1) ∷ puts 1 ++ thiefMoves 2 ++ thiefEnds Abort ++ drains 2 ++ takes 1
+
 -- a steal without ABORT where one task stands: the worker has taken the others, unseen
 abbrev pub lastTaskStanding : List Line
-lastTaskStanding = filled 3 ++ takes 3 ++ takes 2 ++ standing 1 ∷ steals (Task 1) ++ standing 0 ∷ []
+lastTaskStanding = filled 3 ++ takes 3 ++ takes 2 ++ tasksStand 1 ∷ steals (Task 1) ++ tasksStand 0 ∷ []
+
+-- of 4 slots, index 4 lies in slot 0 again: task 5 is put there, and taken or stolen from there
+abbrev pub aroundTheSlots : List Line
+aroundTheSlots = filled 3 ++ steals (Task 1) ++ steals (Task 2) ++ puts 4 ++ drains 2 ++ puts 5 ++ drains 2
+
+abbrev pub takenFromSlot0 : List Line
+takenFromSlot0 = aroundTheSlots ++ takes 5
+
+abbrev pub stolenFromSlot0 : List Line
+stolenFromSlot0 = aroundTheSlots ++ steals (Task 3) ++ puts 6 ++ drains 2 ++ steals (Task 4) ++ steals (Task 5)
+
+-- 5 PLACE, each way; two thieves, of whom one waits for the lock; a third is not there
+abbrev pub outOfPlace : List Line
+outOfPlace =
+    does WorkerStep Place
+    ∷ does (ThiefStep 1) Place
+    ∷ does (BeginPut 1) Moved
+    ∷ does (BeginPut 2) Place
+    ∷ does BeginTake Place
+    ∷ does ClientStore Place
+    ∷ does (BeginSteal 1) Moved
+    ∷ does (BeginSteal 1) Place
+    ∷ does (ThiefStep 1) Moved
+    ∷ does (BeginSteal 0) Moved
+    ∷ does (ThiefStep 0) Wait
+    ∷ does (BeginSteal 2) Wait
+    ∷ does (ThiefStep 2) Wait
+    ∷ does Drain Wait
+    ∷ []
 
 abbrev pub stories : List Row
 stories =
     story m2Sizes m2
     ∷ story m3Sizes m3
     ∷ story (sizes 2 2 0 2 1 0) m4
-    ∷ story (sizes 2 2 0 2 1 0) m5
+    ∷ story (sizes 2 2 0 2 1 0) (m5 3)
+    ∷ story (sizes 2 2 0 2 1 0) (m5 4)
     ∷ story (sizes 4 2 0 2 1 0) m6
-    ∷ story (sizes 4 2 0 2 1 2147483647) (putEnds 1 End)
-    ∷ story (sizes 4 2 0 2 1 2147483646) (puts 1 ++ putEnds 2 End)
+    ∷ story (sizes 4 2 0 2 1 2147483647) m7
+    ∷ story (sizes 4 2 0 2 1 2147483646) m7Before
     ∷ story (sizes 4 4 1 2 1 0) m8
     ∷ story (sizes 4 2 0 2 1 0) m9
     ∷ story (sizes 4 1 0 1 1 0) exampleLines
@@ -207,7 +259,12 @@ stories =
     ∷ story (sizes 4 8 7 1 1 0) thiefSeesMemory
     ∷ story (sizes 4 8 0 8 1 0) workerSeesPending
     ∷ story (sizes 4 2 1 1 1 0) tailAtMargin
+    ∷ story (sizes 4 2 0 2 1 0) headAheadOfTail
     ∷ story (sizes 4 2 0 2 1 0) lastTaskStanding
+    ∷ story (sizes 4 2 1 1 1 0) takenFromSlot0
+    ∷ story (sizes 4 2 1 1 1 0) stolenFromSlot0
+    ∷ story (sizes 4 2 0 0 1 0) m3
+    ∷ story (sizes 4 2 0 2 2 0) outOfPlace
     ∷ []
 
 -- a machine with this tail and no store pending
@@ -216,9 +273,9 @@ withTail z m = withMemory (m .slots) (record { at = z }) emptyBuffer m
 
 abbrev pub brinks : List Row
 brinks =
-    brink (withSpacing 4096 true (fresh m3Sizes)) ClientStore
-    ∷ brink (withTail (pos 2147483648) (withWorker PutStoreTail (fresh m3Sizes))) WorkerStep
-    ∷ brink (withTail (negsuc 0) (withWorker (PutStoreSlot 5) (fresh m3Sizes))) WorkerStep
+    brink (withSpacing 4096 true (fresh m3Sizes)) ClientStore Moved
+    ∷ brink (withTail (pos 2147483648) (withWorker PutStoreTail (fresh m3Sizes))) WorkerStep Stored
+    ∷ brink (withTail (negsuc 0) (withWorker (PutStoreSlot 5) (fresh m3Sizes))) WorkerStep Moved
     ∷ []
 
 abbrev pub rehearsals : List Row

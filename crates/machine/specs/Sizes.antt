@@ -4,7 +4,7 @@ use mathlib.Core.Bool.{Bool, true, false, cond, _&&_}
 use mathlib.Core.List.{List, [], _∷_}
 use Prim.Native.Nat.{ℕ, _+_, _-_, _/_}
 use lib.Dec.{leb, eqb}
-use Rattle.machine.specs.Types.{Sizes, SizeCheck, InRange, OutOfRange}
+use Rattle.machine.specs.Types.{Sizes, SizeCheck, AllInRange, OutOfRange}
 
 -- a number is neither below the least nor above the greatest
 abbrev pub within : ℕ → ℕ → ℕ → Bool
@@ -23,7 +23,7 @@ rangesKept s =
 
 -- the place of the first test that failed, counted from a given one
 abbrev pub firstFault : ℕ → List Bool → SizeCheck
-firstFault place [] = InRange
+firstFault place [] = AllInRange
 firstFault place (kept ∷ l) = cond kept (firstFault (place + 1) l) (OutOfRange place)
 
 -- "The numbers", 1 SIZE: a size outside its range, with its place, lowest place first
@@ -31,7 +31,7 @@ abbrev pub checkSizes : Sizes → SizeCheck
 checkSizes s = firstFault 0 (rangesKept s)
 
 abbrev pub isInRange : SizeCheck → Bool
-isInRange InRange = true
+isInRange AllInRange = true
 isInRange (OutOfRange place) = false
 
 -- every size is in its range

@@ -10,7 +10,7 @@ pub use Rattle.machine.specs.declared.machine.Machine.{Machine}
 pub use Rattle.machine.specs.declared.outcome.Outcome.{Outcome}
 pub use Rattle.machine.specs.declared.outcome.Outcome.the-variants.{Moved, Place, Early, Wait, Stored, Task, Empty, Abort, Full, End}
 pub use Rattle.machine.specs.declared.sizes.SizeCheck.{SizeCheck}
-pub use Rattle.machine.specs.declared.sizes.SizeCheck.the-variants.{InRange, OutOfRange}
+pub use Rattle.machine.specs.declared.sizes.SizeCheck.the-variants.{AllInRange, OutOfRange}
 pub use Rattle.machine.specs.declared.sizes.Sizes.{Sizes}
 pub use Rattle.machine.specs.declared.store_buffer.Store.{Store}
 pub use Rattle.machine.specs.declared.store_buffer.StoreBuffer.{StoreBuffer}

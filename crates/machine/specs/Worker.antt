@@ -49,12 +49,12 @@ abbrev pub takeStoreTail : Machine → Done
 takeStoreTail m = needing (hasRoom m) m (workerGoesOn (TakeLoadHead (previous (workerTail m))) (pushed (tailStore (previous (workerTail m))) m))
 
 -- t ≥ head
-abbrev pub noThiefNear : Index → Machine → Bool
-noThiefNear t m = leZ (m .head .at) (t .at)
+abbrev pub atOrAboveHead : Index → Machine → Bool
+atOrAboveHead t m = leZ (m .head .at) (t .at)
 
 -- (2) load head h: where t ≥ h the slot is next, else the lock
 abbrev pub takeLoadHead : Index → Machine → Done
-takeLoadHead t m = cond (noThiefNear t m) (workerGoesOn (TakeLoadSlot t) m) (workerGoesOn (TakeLock t) m)
+takeLoadHead t m = cond (atOrAboveHead t m) (workerGoesOn (TakeLoadSlot t) m) (workerGoesOn (TakeLock t) m)
 
 -- (3), and (6) after the lock: load the slot of t, TASK
 abbrev pub takeLoadSlot : Index → Machine → Done
@@ -65,12 +65,12 @@ abbrev pub takeLock : Index → Machine → Done
 takeLock t m = needing (lockIsFree m && nothingPending m) m (workerGoesOn (TakeReloadHead t) (withLock TheWorker m))
 
 -- head ≥ t + 1
-abbrev pub taskIsGone : Index → Machine → Bool
-taskIsGone t m = leZ (t .at +ℤ pos 1) (m .head .at)
+abbrev pub headIsPast : Index → Machine → Bool
+headIsPast t m = leZ (t .at +ℤ pos 1) (m .head .at)
 
 -- (4) load head again: where head ≥ t + 1 the old tail is stored next, else comes the unlock
 abbrev pub takeReloadHead : Index → Machine → Done
-takeReloadHead t m = cond (taskIsGone t m) (workerGoesOn (TakeRestoreTail t) m) (workerGoesOn (TakeUnlockTask t) m)
+takeReloadHead t m = cond (headIsPast t m) (workerGoesOn (TakeRestoreTail t) m) (workerGoesOn (TakeUnlockTask t) m)
 
 -- (5) store tail t + 1
 abbrev pub takeRestoreTail : Index → Machine → Done

@@ -9,7 +9,7 @@
 // Every step of every party is an entry of a schedule, and an entry is obeyed as a whole. Reading order:
 //
 // - `sizes`: the six sizes of a schedule, their ranges, and the margin;
-// - `outcome`: what an entry comes to, with the paper's number and value of each case;
+// - `outcome`: what an entry comes to, with its number and value in a trace;
 // - `entry`: the seven kinds of entry;
 // - `index`: a position of the queue, a signed number that never wraps;
 // - `store_buffer`: the pending stores;

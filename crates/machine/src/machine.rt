@@ -28,7 +28,7 @@ pub struct Machine {
     pub sizes: Sizes,
     // Memory: the slots, of which the first `sizes.slots` are in use. Index i lies in slot i mod slots.
     pub slots: [u32; 256],
-    // Memory: the index of the oldest task. Thieves raise it.
+    // Memory: the index of the oldest task. A thief raises it before it knows whether it steals, and may put it back.
     pub head: Index,
     // Memory: the index past the newest task, as far as the worker's stores to it have drained.
     pub tail: Index,

@@ -19,14 +19,14 @@ pub enum Outcome {
     Empty,
     // A steal ends: the margin does not let it be sure of a task.
     Abort,
-    // A put ends: the slots are in use.
+    // A put ends: as far as the worker can tell, at most one slot is free, and that one stays so.
     Full,
     // A put ends: the last index is reached.
     End,
 }
 
 impl Outcome {
-    // The paper's number of the outcome.
+    // Its number in a trace.
     pub fn number(self) -> u8
         ensures { λ r. ⌜ r ≡ numberOf self ⌝ }
     {
@@ -44,7 +44,7 @@ impl Outcome {
         }
     }
 
-    // The value beside it: the task's number, or 0.
+    // Its value in a trace: the task's number, or 0.
     pub fn value(self) -> u32
         ensures { λ r. ⌜ r ≡ valueOf self ⌝ }
     {

@@ -4,13 +4,14 @@ ghost use Rattle.machine.specs.Sizes.{checkSizes, marginInUse, neededMar
 
 // The first six sizes of a schedule, as its file has them. The margin may be 0 here; `margin_in_use` says what that is.
 pub struct Sizes {
-    // How many slots memory has: the paper's W.
+    // How many slots memory has. (W in Morrison and Afek.)
     pub slots: u32,
-    // How many stores may be pending: the paper's S.
+    // How many stores may be pending. (Their S.)
     pub buffer: u32,
-    // How many client stores there are at least between the beginnings of two takes: the paper's x.
+    // How many client stores there are at least between the beginnings of two takes. (Their x.)
     pub spacing: u32,
-    // How far beyond the head a thief must see the tail: the paper's delta. 0 stands for the buffer size.
+    // A thief steals only where the tail that it sees is more than this far beyond the head that it loaded. 0 stands for
+    // the buffer size. (Their delta.)
     pub margin: u32,
     // How many thieves there are.
     pub thieves: u32,
@@ -20,7 +21,7 @@ pub struct Sizes {
 
 // Whether six sizes are in range.
 pub enum SizeCheck {
-    InRange,
+    AllInRange,
     // The place of the first size that is not, counted from 0.
     OutOfRange(u32),
 }
@@ -65,7 +66,7 @@ impl Sizes {
     pub fn check(self) -> SizeCheck
         ensures { λ r. ⌜ r ≡ checkSizes self ⌝ }
     {
-        let start = first_fault(5, 0, 2147483647, self.start, SizeCheck::InRange);
+        let start = first_fault(5, 0, 2147483647, self.start, SizeCheck::AllInRange);
         let thieves = first_fault(4, 1, 8, self.thieves, start);
         let margin = first_fault(3, 0, 64, self.margin, thieves);
         let spacing = first_fault(2, 0, 63, self.spacing, margin);
@@ -78,7 +79,7 @@ impl Sizes {
     {
         let found = self.check();
         match found {
-            SizeCheck::InRange => true,
+            SizeCheck::AllInRange => true,
             SizeCheck::OutOfRange(_) => false,
         }
     }

@@ -14,7 +14,7 @@ pub enum WorkerCall {
     PutStoreTail,
     // Take, step 1: store the lowered tail.
     TakeStoreTail,
-    // Take, step 2, with the lowered tail t, as are all that follow: load head.
+    // Take, step 2, with the lowered tail t: load head.
     TakeLoadHead(Index),
     // Take, step 3 where t is at or above head: load the slot.
     TakeLoadSlot(Index),
