@@ -13,4 +13,5 @@ pub mod Obey
 pub mod PlainQueue
 pub mod Effect
 pub mod Linearizable
+pub mod Renumbering
 pub mod Rehearsals

@@ -11,8 +11,8 @@ use Rattle.machine.specs.Types.{Entry, Drain, ClientStore, BeginPut, Beg
 use Rattle.machine.specs.Lists.{all, gather, occurrences, upTo}
 use Rattle.machine.specs.Sizes.{enoughMargin, sizesInRange}
 use Rattle.machine.specs.Outcome.{isAnswer}
-use Rattle.machine.specs.Machine.{fresh, thiefCall, thiefLoad, workerLoad, workerTail}
-use Rattle.machine.specs.Obey.{outcomesOf, thiefIsThere}
+use Rattle.machine.specs.Machine.{thiefCall, thiefLoad, workerLoad, workerTail}
+use Rattle.machine.specs.Obey.{thiefIsThere}
 use Rattle.machine.specs.PlainQueue.{StoredTask, withinLimits}
 use Rattle.machine.specs.Effect.{Begun, nothing, aPut, aTake, aSteal, Event, Party, worker, thief, PartyCall, Watch, events, watchFresh, watched}
 
@@ -154,37 +154,3 @@ Demand3 =
     → length es ≤ 4096
     → all (isAllowed s) es ≡ true
     → Linearizable s es
-
--- ── Numbers ─────────────────────────────────────────────────────────────────────────────────────────────────────────────────
-
--- "Tasks are told apart by their put, so equal numbers are different tasks": no step depends on a number. Where the puts of a list are
--- numbered anew, with 0 for 0, the answers are those of the list, numbered anew. So what holds of a list whose puts are all numbered
--- apart, where an answer's number names one put, holds of every list.
-
-abbrev pub renumberEntry : (ℕ → ℕ) → Entry → Entry
-renumberEntry f Drain = Drain
-renumberEntry f ClientStore = ClientStore
-renumberEntry f (BeginPut x) = BeginPut (f x)
-renumberEntry f BeginTake = BeginTake
-renumberEntry f WorkerStep = WorkerStep
-renumberEntry f (BeginSteal i) = BeginSteal i
-renumberEntry f (ThiefStep i) = ThiefStep i
-
-abbrev pub renumberOutcome : (ℕ → ℕ) → Outcome → Outcome
-renumberOutcome f Moved = Moved
-renumberOutcome f Place = Place
-renumberOutcome f Early = Early
-renumberOutcome f Wait = Wait
-renumberOutcome f Stored = Stored
-renumberOutcome f (Task x) = Task (f x)
-renumberOutcome f Empty = Empty
-renumberOutcome f Abort = Abort
-renumberOutcome f Full = Full
-renumberOutcome f End = End
-
-abbrev pub BlindToNumbers : Type 0
-BlindToNumbers =
-    (f : ℕ → ℕ)
-    → f 0 ≡ 0
-    → (s : Sizes) (es : List Entry)
-    → outcomesOf (fresh s) (map (renumberEntry f) es) ≡ map (renumberOutcome f) (outcomesOf (fresh s) es)

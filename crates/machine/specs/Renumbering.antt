@@ -1,0 +1,38 @@
+-- Numbers of tasks are only carried. Renders "Tasks are told apart by their put, so equal numbers are different tasks" of "Demand 3's plain
+-- queue", for the machine: no step depends on a number. Where the puts of a list are numbered anew, with 0 for 0, the outcomes are those
+-- of the list, numbered anew. So what holds of a list whose puts are all numbered apart, where an answer's number names one put, holds of
+-- every list.
+use mathlib.Core.Path.{_≡_}
+use mathlib.Core.List.{List, map}
+use Prim.Native.Nat.{ℕ}
+use Rattle.machine.specs.Types.{Entry, Drain, ClientStore, BeginPut, BeginTake, WorkerStep, BeginSteal, ThiefStep, Outcome, Moved, Place, Early, Wait, Stored, Task, Empty, Abort, Full, End, Sizes}
+use Rattle.machine.specs.Machine.{fresh}
+use Rattle.machine.specs.Obey.{outcomesOf}
+
+abbrev pub renumberEntry : (ℕ → ℕ) → Entry → Entry
+renumberEntry f Drain = Drain
+renumberEntry f ClientStore = ClientStore
+renumberEntry f (BeginPut x) = BeginPut (f x)
+renumberEntry f BeginTake = BeginTake
+renumberEntry f WorkerStep = WorkerStep
+renumberEntry f (BeginSteal i) = BeginSteal i
+renumberEntry f (ThiefStep i) = ThiefStep i
+
+abbrev pub renumberOutcome : (ℕ → ℕ) → Outcome → Outcome
+renumberOutcome f Moved = Moved
+renumberOutcome f Place = Place
+renumberOutcome f Early = Early
+renumberOutcome f Wait = Wait
+renumberOutcome f Stored = Stored
+renumberOutcome f (Task x) = Task (f x)
+renumberOutcome f Empty = Empty
+renumberOutcome f Abort = Abort
+renumberOutcome f Full = Full
+renumberOutcome f End = End
+
+abbrev pub BlindToNumbers : Type 0
+BlindToNumbers =
+    (f : ℕ → ℕ)
+    → f 0 ≡ 0
+    → (s : Sizes) (es : List Entry)
+    → outcomesOf (fresh s) (map (renumberEntry f) es) ≡ map (renumberOutcome f) (outcomesOf (fresh s) es)
