@@ -1,3 +1,5 @@
 pub mod Lists
 pub mod Sizes
 pub mod Tests
+pub mod StoreBuffer
+pub mod Refusals
