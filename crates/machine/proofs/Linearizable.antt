@@ -4,7 +4,7 @@ use mathlib.Core.Path.{_≡_, refl, ap}
 use mathlib.Core.List.{List, [], _∷_, map}
 use Prim.Native.Nat.{ℕ}
 use native.Mathlib.Omega.{arith}
-use Rattle.machine.specs.Types.{Entry, Machine, Outcome, Stored, Task, Abort}
+use Rattle.machine.specs.Types.{Entry, Stored, Task, Abort}
 use Rattle.machine.specs.InRange.{inRange}
 use Rattle.machine.specs.Obey.{machineAfter, obey, outcomesOf}
 use Rattle.machine.specs.Effect.{Watch, events, watchAfter, watched}

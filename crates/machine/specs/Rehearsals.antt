@@ -2,13 +2,13 @@
 -- the lines of "Broken thread" that a run can show, for each limit of the plain queue, and for machines that no run reaches.
 -- `proofs/Rehearsals.antt` proves one fact: every row holds.
 use mathlib.Core.Bool.{Bool, true, not, _&&_}
-use mathlib.Core.List.{List, [], _∷_, _++_, map}
+use mathlib.Core.List.{List, [], _∷_, _++_}
 use Prim.Native.Nat.{ℕ, _-_}
 use lib.Dec.{eqb}
 use lib.IntN.{ℤ, pos, negsuc}
 use lib.ListN.{length, replicate}
 use Rattle.machine.specs.Types.{Entry, Drain, ClientStore, BeginPut, BeginTake, WorkerStep, BeginSteal, ThiefStep, Machine, Outcome, Moved, Place, Early, Wait, Stored, Task, Empty, Abort, Full, End, Sizes, PutStoreSlot, PutStoreTail}
-use Rattle.machine.specs.Lists.{all, gather, upFrom}
+use Rattle.machine.specs.Lists.{gather, upFrom}
 use Rattle.machine.specs.Sizes.{neededMargin}
 use Rattle.machine.specs.Outcome.{numberOf, valueOf}
 use Rattle.machine.specs.Index.{eqZ}

@@ -1,10 +1,10 @@
 -- The store buffer. Renders, of "The machine", the sentences from "The worker has a first-in, first-out list of pending stores" to
 -- "The worker loads the newest pending value of a place, or memory if none is pending". It knows nothing of the queue's calls.
-use mathlib.Core.Bool.{Bool, cond}
-use mathlib.Core.List.{List, [], _∷_, _++_, foldl}
+use mathlib.Core.Bool.{cond}
+use mathlib.Core.List.{List, _∷_, _++_, foldl}
 use Prim.Native.Nat.{ℕ, _+_, _-_}
 use lib.Dec.{eqb}
-use lib.ListN.{length, getD, take, drop, set, replicate}
+use lib.ListN.{getD, take, drop, set, replicate}
 use Rattle.machine.specs.Types.{Index, Store, StoreBuffer, StoreKind, Client, Tail, Slot}
 use Rattle.machine.specs.Index.{slotOf}
 

@@ -5,7 +5,7 @@ use Prim.Native.Nat.{ℕ, _+_}
 use lib.Dec.{ltb}
 use lib.IntN.{pos, _+ℤ_, _-ℤ_}
 use lib.Signed.{leZ}
-use Rattle.machine.specs.Types.{Done, Index, Machine, Nobody, TheWorker, Outcome, Moved, Place, Early, Stored, Task, Empty, Full, End, Store, WorkerCall, PutLoadHead, PutStoreSlot, PutStoreTail, TakeStoreTail, TakeLoadHead, TakeLoadSlot, TakeLock, TakeReloadHead, TakeRestoreTail, TakeUnlockEmpty, TakeUnlockTask, TakeLoadLastSlot}
+use Rattle.machine.specs.Types.{Done, Index, Machine, Nobody, TheWorker, Outcome, Moved, Place, Early, Stored, Task, Empty, Full, End, WorkerCall, PutLoadHead, PutStoreSlot, PutStoreTail, TakeStoreTail, TakeLoadHead, TakeLoadSlot, TakeLock, TakeReloadHead, TakeRestoreTail, TakeUnlockEmpty, TakeUnlockTask, TakeLoadLastSlot}
 use Rattle.machine.specs.Index.{eqZ, next, previous}
 use Rattle.machine.specs.StoreBuffer.{clientStore, tailStore, slotStore}
 use Rattle.machine.specs.Machine.{done, hasRoom, lockIsFree, needing, nothingPending, pushed, withLock, withSpacing, withWorker, workerLoad, workerTail}
