@@ -3,3 +3,4 @@ pub mod Sizes
 pub mod Tests
 pub mod StoreBuffer
 pub mod Refusals
+pub mod PlainQueue

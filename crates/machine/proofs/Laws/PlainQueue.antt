@@ -1,0 +1,73 @@
+-- Laws of the plain queue: what a call does to its sum, and to the account of its tasks.
+use mathlib.Core.Path.{_≡_, refl, ap}
+use mathlib.Core.Bool.{Bool, true, false, cond}
+use mathlib.Core.List.{List, [], _∷_}
+use Prim.Native.Nat.{ℕ, _+_, _-_, _≤_, _<_, zero-le}
+use native.Mathlib.Omega.{arith}
+use lib.Dec.{eqb}
+use lib.ListN.{length, take, drop, length-append, length-take, length-drop}
+use Rattle.machine.specs.Types.{Outcome, Empty, Abort}
+use Rattle.machine.specs.PlainQueue.{Call, putCall, takeCall, stealCall, PlainQueue, Reply, StoredTask, emptyQueue, joined, leaves, newest, respond, unchanged, withoutNewest}
+
+-- how many tasks a call gives to the worker
+abbrev pub takenBy : PlainQueue → Call → ℕ
+takenBy q (putCall x full) = 0
+takenBy q takeCall = length (respond q takeCall .given)
+takenBy q (stealCall abort) = 0
+
+-- A reply with its account: the tasks that left and those that stand are those that stood and the one that joined; the sum has grown by
+-- what joined and fallen by what the worker took; and no fewer than the tasks that stand.
+pub record Balances (q : PlainQueue) (taken : ℕ) (r : Reply) : Type 0 where
+  pub tasks : length (r .given) + length (r .queue .tasks) + q .stored ≡ length (q .tasks) + r .queue .stored
+  pub sum : r .queue .sum + taken + q .stored ≡ q .sum + r .queue .stored
+  pub covers : length (r .queue .tasks) ≤ r .queue .sum
+
+either : {q : PlainQueue} {n : ℕ} {r s : Reply} (t : Bool) → Balances q n r → Balances q n s → Balances q n (cond t r s)
+either true p q = p
+either false p q = q
+
+module _ (q : PlainQueue) (covered : length (q .tasks) ≤ q .sum) where
+  unchanged-balances : (o : Outcome) → Balances q 0 (unchanged q o)
+  unchanged-balances o = record { tasks = omega arith; sum = omega arith; covers = covered }
+
+  joined-balances : (x : ℕ) → Balances q 0 (joined x q)
+  joined-balances x = record { tasks = simp length-append (omega arith); sum = omega arith; covers = simp length-append (omega arith) }
+
+  take-balances : (l : List StoredTask) → newest (q .tasks) ≡ l → Balances q (length (leaves l (record { tasks = withoutNewest (q .tasks); sum = q .sum - 1; stored = q .stored }) q Empty .given)) (leaves l (record { tasks = withoutNewest (q .tasks); sum = q .sum - 1; stored = q .stored }) q Empty)
+  take-balances [] e = unchanged-balances Empty
+  take-balances (t ∷ l) e =
+      let some : 0 < length (q .tasks) = omega (arith, simp length-drop at (ap length e)) in
+      record { tasks = simp length-take (omega arith); sum = omega arith; covers = simp length-take (omega arith) }
+
+  steal-balances : (l : List StoredTask) → take 1 (q .tasks) ≡ l → Balances q 0 (leaves l (record { tasks = drop 1 (q .tasks); sum = q .sum; stored = q .stored }) q Abort)
+  steal-balances [] e = unchanged-balances Abort
+  steal-balances (t ∷ l) e =
+      let some : 0 < length (q .tasks) = omega (arith, simp length-take at (ap length e)) in
+      record { tasks = simp length-drop (omega arith); sum = omega arith; covers = simp length-drop (omega arith) }
+
+  pub respond-balances : (c : Call) → Balances q (takenBy q c) (respond q c)
+  respond-balances (putCall x full) = either (eqb (q .sum) 2147483647) (unchanged-balances _) (either full (unchanged-balances _) (joined-balances x))
+  respond-balances takeCall = take-balances (newest (q .tasks)) refl
+  respond-balances (stealCall true) = unchanged-balances _
+  respond-balances (stealCall false) = steal-balances (take 1 (q .tasks)) refl
+
+-- ── A list of calls ─────────────────────────────────────────────────────────────────────────────────────────────────────────
+
+abbrev pub after : PlainQueue → List Call → PlainQueue
+after q [] = q
+after q (c ∷ cs) = after (respond q c .queue) cs
+
+-- how many tasks the calls give to the worker
+abbrev pub takenIn : PlainQueue → List Call → ℕ
+takenIn q [] = 0
+takenIn q (c ∷ cs) = takenBy q c + takenIn (respond q c .queue) cs
+
+sum-grows : (q : PlainQueue) (cs : List Call) → length (q .tasks) ≤ q .sum → after q cs .sum + takenIn q cs + q .stored ≡ q .sum + after q cs .stored
+sum-grows q [] covered = omega arith
+sum-grows q (c ∷ cs) covered =
+    let b = respond-balances q covered c in
+    omega (arith, sum-grows (respond q c .queue) cs (b .covers))
+
+-- "So the sum is start + stored − taken by the worker."
+pub sum-counts : (start : ℕ) (cs : List Call) → after (emptyQueue start) cs .sum + takenIn (emptyQueue start) cs ≡ start + after (emptyQueue start) cs .stored
+sum-counts start cs = omega (arith, sum-grows (emptyQueue start) cs zero-le)
