@@ -1,12 +1,12 @@
--- Laws of tests over a list.
+-- Laws of tests over a list, and of lists whose elements are all replaced by a function.
 use mathlib.Core.Path.{_≡_, refl, ap, sym, _∙_}
 use mathlib.Core.Bool.{Bool, true, false, cond, _&&_}
-use mathlib.Core.List.{List, [], _∷_, _++_}
+use mathlib.Core.List.{List, [], _∷_, _++_, foldl, map}
 use Prim.Native.Nat.{ℕ, zero, suc, _+_, _≤_, _<_}
 use native.Mathlib.Nat.{not-suc-le-zero}
 use native.Mathlib.Numerals.{add-one}
 use lib.Dec.{eqb}
-use lib.ListN.{length, getD, take, drop, set}
+use lib.ListN.{length, getD, take, drop, set, replicate}
 use lib.Seq.{getD-set-other, getD-set-same, take-all, take-suc}
 use borrow.Author.Tests.{eqb-false, eqb-true}
 use Rattle.machine.specs.Lists.{all}
@@ -45,3 +45,35 @@ getD-set l j k a d there = go (eqb j k) refl
     go : (same : Bool) → eqb j k ≡ same → getD (set l j a) k d ≡ cond same a (getD l k d)
     go true e = rw (eqb-true j k e) (getD-set-same l k a d there)
     go false e = getD-set-other l j k a d (λ p. eqb-false j k e (sym p))
+
+module _ {A B : Type 0} (g : A → B) where
+  -- replacing the elements and changing the list commute
+  pub map-take : (n : ℕ) (l : List A) → take n (map g l) ≡ map g (take n l)
+  map-take zero l = refl
+  map-take (suc n) [] = refl
+  map-take (suc n) (x ∷ l) = ap (λ r. g x ∷ r) (map-take n l)
+
+  pub map-drop : (n : ℕ) (l : List A) → drop n (map g l) ≡ map g (drop n l)
+  map-drop zero l = refl
+  map-drop (suc n) [] = refl
+  map-drop (suc n) (x ∷ l) = map-drop n l
+
+  pub map-set : (l : List A) (n : ℕ) (x : A) → set (map g l) n (g x) ≡ map g (set l n x)
+  map-set [] n x = refl
+  map-set (y ∷ l) zero x = refl
+  map-set (y ∷ l) (suc n) x = ap (λ r. g y ∷ r) (map-set l n x)
+
+  pub map-replicate : (n : ℕ) (x : A) → map g (replicate n x) ≡ replicate n (g x)
+  map-replicate zero x = refl
+  map-replicate (suc n) x = ap (λ r. g x ∷ r) (map-replicate n x)
+
+  -- a test that each element passes as what takes its place does
+  pub all-map : (p : B → Bool) {q : A → Bool} → ((x : A) → p (g x) ≡ q x) → (l : List A) → all p (map g l) ≡ all q l
+  all-map p e [] = refl
+  all-map p e (x ∷ l) = λ i. e x i && all-map p e l i
+
+  -- a fold whose every turn commutes with the replacement
+  pub foldl-map : {C D : Type 0} (h : C → D) (s : D → B → D) (t : C → A → C) → ((c : C) (x : A) → s (h c) (g x) ≡ h (t c x))
+      → (c : C) (l : List A) → foldl s (h c) (map g l) ≡ h (foldl t c l)
+  foldl-map h s t e c [] = refl
+  foldl-map h s t e c (x ∷ l) = ap (λ d. foldl s d (map g l)) (e c x) ∙ foldl-map h s t e (t c x) l

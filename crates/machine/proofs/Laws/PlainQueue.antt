@@ -1,6 +1,6 @@
 -- Laws of the plain queue: what a call does to its sum, and to the account of its tasks.
 use mathlib.Core.Path.{_≡_, refl, ap}
-use mathlib.Core.Bool.{Bool, true, false, cond}
+use mathlib.Core.Bool.{true, false}
 use mathlib.Core.List.{List, [], _∷_}
 use Prim.Native.Nat.{ℕ, _+_, _-_, _≤_, _<_, zero-le}
 use native.Mathlib.Omega.{arith}
@@ -8,6 +8,7 @@ use lib.Dec.{eqb}
 use lib.ListN.{length, take, drop, length-append, length-take, length-drop}
 use Rattle.machine.specs.Types.{Outcome, Empty, Abort}
 use Rattle.machine.specs.PlainQueue.{Call, putCall, takeCall, stealCall, PlainQueue, Reply, StoredTask, emptyQueue, joined, leaves, newest, respond, unchanged, withoutNewest}
+use Rattle.machine.proofs.Laws.Tests.{either}
 
 -- how many tasks a call gives to the worker
 abbrev pub takenBy : PlainQueue → Call → ℕ
@@ -21,10 +22,6 @@ pub record Balances (q : PlainQueue) (taken : ℕ) (r : Reply) : Type 0 where
   pub tasks : length (r .given) + length (r .queue .tasks) + q .stored ≡ length (q .tasks) + r .queue .stored
   pub sum : r .queue .sum + taken + q .stored ≡ q .sum + r .queue .stored
   pub covers : length (r .queue .tasks) ≤ r .queue .sum
-
-either : {q : PlainQueue} {n : ℕ} {r s : Reply} (t : Bool) → Balances q n r → Balances q n s → Balances q n (cond t r s)
-either true p q = p
-either false p q = q
 
 module _ (q : PlainQueue) (covered : length (q .tasks) ≤ q .sum) where
   unchanged-balances : (o : Outcome) → Balances q 0 (unchanged q o)
@@ -46,7 +43,7 @@ module _ (q : PlainQueue) (covered : length (q .tasks) ≤ q .sum) where
       record { tasks = simp length-drop (omega arith); sum = omega arith; covers = simp length-drop (omega arith) }
 
   pub respond-balances : (c : Call) → Balances q (takenBy q c) (respond q c)
-  respond-balances (putCall x full) = either (eqb (q .sum) 2147483647) (unchanged-balances _) (either full (unchanged-balances _) (joined-balances x))
+  respond-balances (putCall x full) = either (Balances q 0) (eqb (q .sum) 2147483647) (unchanged-balances _) (either (Balances q 0) full (unchanged-balances _) (joined-balances x))
   respond-balances takeCall = take-balances (newest (q .tasks)) refl
   respond-balances (stealCall true) = unchanged-balances _
   respond-balances (stealCall false) = steal-balances (take 1 (q .tasks)) refl

@@ -1,6 +1,17 @@
--- Laws of tests: what a call's answer, once tested, says of the definition that it ensures.
+-- Laws of tests: what a call's answer, once tested, says of the definition that it ensures; and what a function makes of a choice.
 use mathlib.Core.Path.{_≡_, sym, _∙_}
+use mathlib.Core.Bool.{Bool, true, false, cond}
 
 -- a call answered x, which is y by its contract, and the test found x to be b: so y is b
 pub known : {A : Type 0} {x y b : A} → x ≡ y → x ≡ b → y ≡ b
 known ensures found = sym ensures ∙ found
+
+-- of two choices by one test, the first is what h makes of the second where each branch is
+pub cond-map : {A B : Type 0} (h : A → B) (t : Bool) {x y : A} {v w : B} → v ≡ h x → w ≡ h y → cond t v w ≡ h (cond t x y)
+cond-map h true p q = p
+cond-map h false p q = q
+
+-- what holds of both branches holds of the choice
+pub either : {A : Type 0} (P : A → Type 0) (t : Bool) {x y : A} → P x → P y → P (cond t x y)
+either P true p q = p
+either P false p q = q
