@@ -4,3 +4,4 @@ pub mod Tests
 pub mod StoreBuffer
 pub mod Refusals
 pub mod PlainQueue
+pub mod Index

@@ -1,0 +1,125 @@
+-- Indices as natural numbers, one above: 0 for −1, k + 1 for k. Their sums, orders and differences in ℤ, as the definitions have them, are
+-- those of the natural numbers.
+use mathlib.Core.Path.{_≡_, refl, ap, sym, _∙_}
+use mathlib.Core.Bool.{Bool, true, false, cond, not, _&&_}
+use Prim.Native.Nat.{ℕ, zero, suc, _+_, _-_, _%_, _≤_, _<_, zero-le}
+use native.Mathlib.Omega.{arith}
+use lib.Dec.{eqb, leb, ltb}
+use lib.IntN.{ℤ, pos, negsuc, subℕ, _+ℤ_, _-ℤ_, +ℤ-idr}
+use lib.Signed.{leZ, ltZ}
+use borrow.Author.Tests.{eqb-false, eqb-true, le-leb, le-ltb, leb-false, leb-true, lt-leb, lt-ltb, ltb-false, ltb-true}
+use Rattle.machine.specs.Types.{Index}
+use Rattle.machine.specs.Index.{eqZ, indexInRange, next, previous, slotIndexInRange, slotOf}
+
+-- two tests of an order agree where the orders do
+leb-iff : (a b c d : ℕ) → (a ≤ b → c ≤ d) → (c ≤ d → a ≤ b) → leb a b ≡ leb c d
+leb-iff a b c d to from = go (leb a b) (leb c d) refl refl
+  where
+    go : (s t : Bool) → leb a b ≡ s → leb c d ≡ t → s ≡ t
+    go true true e f = refl
+    go false false e f = refl
+    go true false e f = let p = to (leb-true a b e) in let q = leb-false c d f in absurd (omega arith)
+    go false true e f = let p = from (leb-true c d f) in let q = leb-false a b e in absurd (omega arith)
+
+-- a difference of natural numbers, ordered
+subℕ-le : (a b c d : ℕ) → leZ (subℕ a b) (subℕ c d) ≡ leb (a + d) (c + b)
+subℕ-le a b c d = go (ltb a b) (ltb c d) refl refl
+  where
+    go : (s t : Bool) → ltb a b ≡ s → ltb c d ≡ t → leZ (cond s (negsuc (b - suc a)) (pos (a - b))) (cond t (negsuc (d - suc c)) (pos (c - d))) ≡ leb (a + d) (c + b)
+    go true true e f = let p = ltb-true a b e in let q = ltb-true c d f in leb-iff (d - suc c) (b - suc a) (a + d) (c + b) (λ h. omega arith) (λ h. omega arith)
+    go true false e f = let p = ltb-true a b e in let q = ltb-false c d f in sym (le-leb (a + d) (c + b) (omega arith))
+    go false true e f = let p = ltb-false a b e in let q = ltb-true c d f in sym (lt-leb (a + d) (c + b) (omega arith))
+    go false false e f = let p = ltb-false a b e in let q = ltb-false c d f in leb-iff (a - b) (c - d) (a + d) (c + b) (λ h. omega arith) (λ h. omega arith)
+
+-- a difference by its sign
+subℕ-neg : (a b : ℕ) → a < b → subℕ a b ≡ negsuc (b - suc a)
+subℕ-neg a b h = rw (lt-ltb a b h)
+
+subℕ-pos : (a b : ℕ) → b ≤ a → subℕ a b ≡ pos (a - b)
+subℕ-pos a b h = rw (le-ltb a b h)
+
+-- a difference depends on how far its two numbers lie apart
+subℕ-same : (a b c d : ℕ) → a + d ≡ c + b → subℕ a b ≡ subℕ c d
+subℕ-same a b c d same = go (ltb a b) refl
+  where
+    go : (t : Bool) → ltb a b ≡ t → subℕ a b ≡ subℕ c d
+    go true e = let h = ltb-true a b e in subℕ-neg a b h ∙ ap negsuc (omega arith) ∙ sym (subℕ-neg c d (omega arith))
+    go false e = let h = ltb-false a b e in subℕ-pos a b h ∙ ap pos (omega arith) ∙ sym (subℕ-pos c d (omega arith))
+
+-- what is taken from a difference is added to what it lacks
+subℕ-minus : (a b c : ℕ) → subℕ a b -ℤ pos c ≡ subℕ a (b + c)
+subℕ-minus a b c = go (ltb a b) refl c
+  where
+    go : (t : Bool) → ltb a b ≡ t → (c : ℕ) → subℕ a b -ℤ pos c ≡ subℕ a (b + c)
+    go t e zero = +ℤ-idr (subℕ a b) ∙ ap (subℕ a) (omega arith)
+    go true e (suc c) = let h = ltb-true a b e in rw (subℕ-neg a b h, subℕ-neg a (b + suc c) (omega arith)) (ap negsuc (omega arith))
+    go false e (suc c) = let h = ltb-false a b e in rw (subℕ-pos a b h) (subℕ-same (a - b) (suc c) a (b + suc c) (omega arith))
+
+subℕ-plus : (a b c : ℕ) → subℕ a b +ℤ pos c ≡ subℕ (a + c) b
+subℕ-plus a b c = go (ltb a b) refl
+  where
+    go : (t : Bool) → ltb a b ≡ t → subℕ a b +ℤ pos c ≡ subℕ (a + c) b
+    go true e = let h = ltb-true a b e in rw (subℕ-neg a b h) (subℕ-same c (suc (b - suc a)) (a + c) b (omega arith))
+    go false e = let h = ltb-false a b e in rw (subℕ-pos a b h) (ap pos (omega arith) ∙ sym (subℕ-pos (a + c) b (omega arith)))
+
+-- the strict order is the other one, failed
+ltb-not : (a b : ℕ) → ltb a b ≡ not (leb b a)
+ltb-not a b = go (leb b a) refl
+  where
+    go : (t : Bool) → leb b a ≡ t → ltb a b ≡ not t
+    go true e = le-ltb a b (leb-true b a e)
+    go false e = lt-ltb a b (leb-false b a e)
+
+ltZ-not : (x y : ℤ) → ltZ x y ≡ not (leZ y x)
+ltZ-not (pos a) (pos b) = ltb-not a b
+ltZ-not (pos a) (negsuc b) = refl
+ltZ-not (negsuc a) (pos b) = refl
+ltZ-not (negsuc a) (negsuc b) = ltb-not b a
+
+-- ── Indices ─────────────────────────────────────────────────────────────────────────────────────────────────────────────────
+
+-- the index one below k, and so every index from −1 up
+abbrev pub idx : ℕ → Index
+idx k = record { at = subℕ k 1 }
+
+pub idx-next : (k : ℕ) → next (idx k) ≡ idx (k + 1)
+idx-next k = ap (λ z. record { at = z }) (subℕ-plus k 1 1)
+
+pub idx-previous : (k : ℕ) → previous (idx (k + 1)) ≡ idx k
+idx-previous k = ap (λ z. record { at = z }) (subℕ-minus (k + 1) 1 1 ∙ subℕ-same (k + 1) 2 k 1 (omega arith))
+
+pub idx-le : (a b : ℕ) → leZ (idx a .at) (idx b .at) ≡ leb a b
+idx-le a b = subℕ-le a 1 b 1 ∙ leb-iff (a + 1) (b + 1) a b (λ h. omega arith) (λ h. omega arith)
+
+pub idx-eq : (a b : ℕ) → eqZ (idx a .at) (idx b .at) ≡ eqb a b
+idx-eq a b = rw (idx-le a b, idx-le b a) (go (leb a b) (leb b a) (eqb a b) refl refl refl)
+  where
+    go : (s t u : Bool) → leb a b ≡ s → leb b a ≡ t → eqb a b ≡ u → (s && t) ≡ u
+    go true true true e f g = refl
+    go true true false e f g = let p = leb-true a b e in let q = leb-true b a f in absurd (eqb-false a b g (omega arith))
+    go true false true e f g = let p = leb-false b a f in let q = eqb-true a b g in absurd (omega arith)
+    go true false false e f g = refl
+    go false t true e f g = let p = leb-false a b e in let q = eqb-true a b g in absurd (omega arith)
+    go false t false e f g = refl
+
+-- T − margin > h
+pub idx-margin : (h t d : ℕ) → ltZ (idx h .at) (idx t .at -ℤ pos d) ≡ ltb (h + d) t
+idx-margin h t d =
+    rw (subℕ-minus t 1 d, ltZ-not (idx h .at) (subℕ t (1 + d)), subℕ-le t (1 + d) h 1)
+    (ap not (leb-iff (t + 1) (h + (1 + d)) t (h + d) (λ h. omega arith) (λ h. omega arith)) ∙ sym (ltb-not (h + d) t))
+
+-- tail − head ≥ slots − 1, for a head that is not below 0
+pub idx-full : (n t h : ℕ) → leZ (pos n -ℤ pos 1) (idx t .at -ℤ idx (h + 1) .at) ≡ leb (n + h) t
+idx-full n t h =
+    rw (subℕ-pos (h + 1) 1 (omega arith), subℕ-minus t 1 (h + 1 - 1), subℕ-le n 1 t (1 + (h + 1 - 1)))
+    (leb-iff (n + (1 + (h + 1 - 1))) (t + 1) (n + h) t (λ h. omega arith) (λ h. omega arith))
+
+-- the slot of an index that is not below 0
+pub idx-slot : (n k : ℕ) → slotOf n (idx (k + 1)) ≡ k % n
+idx-slot n k = rw (subℕ-pos (k + 1) 1 (omega arith)) (ap (λ j. j % n) (omega arith))
+
+pub idx-in-range : (k : ℕ) → indexInRange (idx k) ≡ leb k 2147483649
+idx-in-range k = rw (idx-le 0 k, le-leb 0 k zero-le) (idx-le k 2147483649)
+
+pub idx-slot-in-range : (k : ℕ) → slotIndexInRange (idx k) ≡ (leb 1 k && leb k 2147483649)
+idx-slot-in-range k = rw (idx-le 1 k) (ap (λ b. leb 1 k && b) (idx-le k 2147483649))
