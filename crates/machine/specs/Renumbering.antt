@@ -1,7 +1,6 @@
 -- Numbers of tasks are only carried. Renders "Tasks are told apart by their put, so equal numbers are different tasks" of "Demand 3's plain
--- queue", for the machine: no step depends on a number. Where the puts of a list are numbered anew, with 0 for 0, the outcomes are those
--- of the list, numbered anew. So what holds of a list whose puts are all numbered apart, where an answer's number names one put, holds of
--- every list.
+-- queue", for the machine's answers: where the puts of a list are numbered anew, with 0 for 0, the outcomes are those of the list, numbered
+-- anew. So every list has the outcomes of the list with each put numbered apart, in which an answer's number names one put.
 use mathlib.Core.Path.{_≡_}
 use mathlib.Core.List.{List, map}
 use Prim.Native.Nat.{ℕ}
