@@ -8,7 +8,8 @@ use lib.ListN.{List·getD-map, getD, replicate}
 use Rattle.machine.specs.Types.{Entry, Drain, ClientStore, BeginPut, BeginTake, WorkerStep, BeginSteal, ThiefStep, Done, Index, Machine, Nobody, TheThief, Outcome, Moved, Stored, Task, Abort, Sizes, Store, StoreBuffer, StoreKind, Client, Tail, Slot, Thief, ThiefCall, StealLock, StealLoadHead, StealRaiseHead, StealLoadTail, StealLoadSlot, StealUnlockTask, StealRestoreHead, StealUnlockAbort, WorkerCall, PutLoadHead, PutStoreSlot, PutStoreTail, TakeStoreTail, TakeLoadHead, TakeLoadSlot, TakeLock, TakeReloadHead, TakeRestoreTail, TakeUnlockEmpty, TakeUnlockTask, TakeLoadLastSlot}
 use Rattle.machine.specs.Index.{next, previous, slotOf}
 use Rattle.machine.specs.StoreBuffer.{clientStore, dropOldest, oldest, pending, slotAfter, slotsAfter, slotStore, tailAfter, tailStore}
-use Rattle.machine.specs.Machine.{done, fresh, hasRoom, idleThief, lockIsFree, needing, nothingPending, pushed, thiefCall, thiefLoad, withHead, withLock, withMemory, withThief, withWorker, workerLoad, workerTail}
+use Rattle.machine.specs.Machine.{done, fresh, hasRoom, idleThief, lockIsFree, memoryLoad, needing, nothingPending, thiefCall, workerLoad, workerTail}
+use Rattle.machine.specs.Update.{pushed, withHead, withLock, withMemory, withThief, withWorker}
 use Rattle.machine.specs.InRange.{inRange, storeInRange, thiefInRange, workerInRange}
 use Rattle.machine.specs.Worker.{atEnd, atOrAboveHead, countedStore, headIsPast, isFull, stepOfWorker, takeLoadSlot, tooEarly, unlessWorkerRuns, workerAnswers, workerGoesOn, workerRuns}
 use Rattle.machine.specs.Thief.{marginKept, stepOfThief, thiefRuns}
@@ -193,7 +194,7 @@ module _ (f : ℕ → ℕ) where
   -- ── With 0 for 0: a slot that holds no task holds 0 ─────────────────────────────────────────────────────────────────────────
   module _ (zero-kept : f 0 ≡ 0) where
     -- what a thief and what the worker load from a slot, and the answer of a take
-    thief-load-renumber : (m : Machine) (i : Index) → thiefLoad (renumber m) i ≡ f (thiefLoad m i)
+    thief-load-renumber : (m : Machine) (i : Index) → memoryLoad (renumber m) i ≡ f (memoryLoad m i)
     thief-load-renumber m i =
         let k = slotOf (m .sizes .slots) i in
         ap (getD (map f (m .slots)) k) (sym zero-kept) ∙ List·getD-map f (m .slots) k 0
@@ -201,7 +202,7 @@ module _ (f : ℕ → ℕ) where
     worker-load-renumber : (m : Machine) (i : Index) → workerLoad (renumber m) i ≡ f (workerLoad m i)
     worker-load-renumber m i =
         rw (thief-load-renumber m i, pending-renumber (m .buffer))
-        (foldl-map renumberStore f _ _ (λ v s. slot-renumber _ _ v (s .kind)) (thiefLoad m i) (pending (m .buffer)))
+        (foldl-map renumberStore f _ _ (λ v s. slot-renumber _ _ v (s .kind)) (memoryLoad m i) (pending (m .buffer)))
 
     take-renumber : (t : Index) (m : Machine) → takeLoadSlot t (renumber m) ≡ renumberDone (takeLoadSlot t m)
     take-renumber t m = ap (λ x. workerAnswers (Task x) (renumber m)) (worker-load-renumber m t)
@@ -232,7 +233,7 @@ module _ (f : ℕ → ℕ) where
     steal-renumber i m (StealRaiseHead h) = thief-renumber Moved i (StealLoadTail h) (withHead (next h) m)
     steal-renumber i m (StealLoadTail h) =
         cond-map renumberDone (marginKept h m) (thief-renumber Moved i (StealLoadSlot h) m) (thief-renumber Moved i (StealRestoreHead h) m)
-    steal-renumber i m (StealLoadSlot h) = rw (thief-load-renumber m h) (thief-renumber Moved i (StealUnlockTask (thiefLoad m h)) m)
+    steal-renumber i m (StealLoadSlot h) = rw (thief-load-renumber m h) (thief-renumber Moved i (StealUnlockTask (memoryLoad m h)) m)
     steal-renumber i m (StealUnlockTask x) = thief-renumber (Task x) i ThiefCall.Idle (withLock Nobody m)
     steal-renumber i m (StealRestoreHead h) = thief-renumber Moved i StealUnlockAbort (withHead h m)
     steal-renumber i m StealUnlockAbort = thief-renumber Abort i ThiefCall.Idle (withLock Nobody m)

@@ -1,17 +1,17 @@
 -- Where a call takes effect, and a run watched beside the plain queue. Renders "A call takes effect at .." of "The machine" and "It is
 -- told the calls that took effect, in the order of those entries, each put with its task number, and, as the step decides it, whether a
--- put is FULL or a steal ABORT" of "Demand 3's plain queue".
+-- put is FULL or a steal ABORT" of "Demand 3's plain queue". The steps are those of `Worker` and `Thief`.
 use mathlib.Core.Bool.{Bool, true, false, cond, not}
 use mathlib.Core.List.{List, [], _∷_, _++_, map}
 use Prim.Native.Nat.{ℕ}
 use lib.Dec.{eqb}
 use lib.Signed.{leZ}
-use Rattle.machine.specs.Types.{Entry, Drain, ClientStore, BeginPut, BeginTake, WorkerStep, BeginSteal, ThiefStep, Machine, Outcome, Sizes, ThiefCall, StealLock, StealLoadHead, StealRaiseHead, StealLoadTail, StealLoadSlot, StealUnlockTask, StealRestoreHead, StealUnlockAbort, WorkerCall, PutLoadHead, PutStoreSlot, PutStoreTail, TakeStoreTail, TakeLoadHead, TakeLoadSlot, TakeLock, TakeReloadHead, TakeRestoreTail, TakeUnlockEmpty, TakeUnlockTask, TakeLoadLastSlot}
+use Rattle.machine.specs.Types.{Entry, Drain, ClientStore, BeginPut, BeginTake, WorkerStep, BeginSteal, ThiefStep, Machine, Outcome, Full, Sizes, ThiefCall, StealLock, StealLoadHead, StealRaiseHead, StealLoadTail, StealLoadSlot, StealUnlockTask, StealRestoreHead, StealUnlockAbort, WorkerCall, PutLoadHead, PutStoreSlot, PutStoreTail, TakeStoreTail, TakeLoadHead, TakeLoadSlot, TakeLock, TakeReloadHead, TakeRestoreTail, TakeUnlockEmpty, TakeUnlockTask, TakeLoadLastSlot}
 use Rattle.machine.specs.Outcome.{isAnswer, isRefusal, numberOf}
-use Rattle.machine.specs.Machine.{fresh, thiefCall}
+use Rattle.machine.specs.Machine.{fresh, thiefCall, workerTail}
 use Rattle.machine.specs.Thief.{marginKept}
 use Rattle.machine.specs.Obey.{obey}
-use Rattle.machine.specs.PlainQueue.{Call, putCall, takeCall, stealCall, PlainQueue, Reply, emptyQueue, respond}
+use Rattle.machine.specs.PlainQueue.{Told, toldPut, toldTake, toldSteal, PlainQueue, Reply, emptyQueue, respond}
 
 -- ── Effects ─────────────────────────────────────────────────────────────────────────────────────────────────────────────────
 
@@ -25,17 +25,17 @@ abbrev pub onlyWhere : Bool → Bool → Effect
 onlyWhere there full = cond there (decided full) none
 
 abbrev pub isFullOutcome : Outcome → Bool
-isFullOutcome o = eqb (numberOf o) 20
+isFullOutcome o = eqb (numberOf o) (numberOf Full)
 
--- a put at step 3, or at step 1 where it ends there, which is FULL or END; a take at step 2 where t ≥ h, otherwise at step 4; the outcome
--- is that of the step
+-- a put at step 3, or at step 1 where it ends there, which is FULL or END; a take at step 2 where t ≥ h, which is the tail that its step 1
+-- has stored, otherwise at step 4; the outcome is that of the step
 abbrev pub workerEffect : Outcome → Machine → WorkerCall → Effect
 workerEffect o m WorkerCall.Idle = none
 workerEffect o m (PutLoadHead x) = onlyWhere (isAnswer o) (isFullOutcome o)
 workerEffect o m (PutStoreSlot x) = none
 workerEffect o m PutStoreTail = decided false
 workerEffect o m TakeStoreTail = none
-workerEffect o m (TakeLoadHead t) = onlyWhere (leZ (m .head .at) (t .at)) false
+workerEffect o m (TakeLoadHead t) = onlyWhere (leZ (m .head .at) (workerTail m .at)) false
 workerEffect o m (TakeLoadSlot t) = none
 workerEffect o m (TakeLock t) = none
 workerEffect o m (TakeReloadHead t) = decided false
@@ -75,7 +75,7 @@ pub data Party : Type 0 where
   worker : Party
   thief : ℕ → Party
 
--- whose entry it is; a drain is the worker's, and never has an answer
+-- whose entry it is; a drain is the worker's
 abbrev pub partyOf : Entry → Party
 partyOf Drain = worker
 partyOf ClientStore = worker
@@ -115,27 +115,27 @@ pub record PartyCall : Type 0 where
 abbrev pub noCall : PartyCall
 noCall = record { begun = nothing; replies = [] }
 
--- the call goes on, unless an entry begins another
+-- the call goes on, unless an entry begins another; replies that were never answered stay
 abbrev pub orBegun : PartyCall → Begun → PartyCall
 orBegun c nothing = c
-orBegun c (aPut x) = record { begun = aPut x; replies = [] }
-orBegun c aTake = record { begun = aTake; replies = [] }
-orBegun c aSteal = record { begun = aSteal; replies = [] }
+orBegun c (aPut x) = record { begun = aPut x; replies = c .replies }
+orBegun c aTake = record { begun = aTake; replies = c .replies }
+orBegun c aSteal = record { begun = aSteal; replies = c .replies }
 
 -- a party's call after an entry of its own: an answer ends it, and a refusal changes nothing
 abbrev pub callAfter : PartyCall → Outcome → Entry → PartyCall
 callAfter c o e = cond (isAnswer o) noCall (cond (isRefusal o) c (orBegun c (begunBy e)))
 
 -- what the plain queue is told at an effect: the call that was begun
-abbrev pub callToldOf : Begun → Bool → List Call
-callToldOf nothing d = []
-callToldOf (aPut x) d = putCall x d ∷ []
-callToldOf aTake d = takeCall ∷ []
-callToldOf aSteal d = stealCall d ∷ []
+abbrev pub callTold : Begun → Bool → List Told
+callTold nothing d = []
+callTold (aPut x) d = toldPut x d ∷ []
+callTold aTake d = toldTake ∷ []
+callTold aSteal d = toldSteal d ∷ []
 
-abbrev pub tell : Begun → Effect → List Call
-tell b none = []
-tell b (decided d) = callToldOf b d
+abbrev pub toldOf : Begun → Effect → List Told
+toldOf b none = []
+toldOf b (decided d) = callTold b d
 
 -- ── A run watched ───────────────────────────────────────────────────────────────────────────────────────────────────────────
 
@@ -149,8 +149,8 @@ abbrev pub watchFresh : Sizes → Watch
 watchFresh s = record { machine = fresh s; queue = emptyQueue (s .start); calls = λ p. noCall }
 
 -- what the plain queue is told at an entry: at most one call
-abbrev pub toldAt : Watch → Entry → List Call
-toldAt w e = tell (w .calls (partyOf e) .begun) (effect (w .machine) e)
+abbrev pub toldAt : Watch → Entry → List Told
+toldAt w e = toldOf (w .calls (partyOf e) .begun) (effect (w .machine) e)
 
 abbrev pub repliesAt : Watch → Entry → List Reply
 repliesAt w e = map (respond (w .queue)) (toldAt w e)
@@ -172,15 +172,26 @@ watchAfter w e =
       calls = λ p. cond (sameParty p (partyOf e)) (callAfter (callAt w e) (obey (w .machine) e .outcome) e) (w .calls p);
     }
 
--- What there is to see of an entry: its outcome, the call of its party, and what the plain queue was told, with the queue just before.
+-- What there is to see of an entry: its outcome, the call that it is a step of, and what the plain queue was told, with the queue just
+-- before.
 pub record Event : Type 0 where
   pub outcome : Outcome
   pub call : PartyCall
-  pub told : List Call
+  pub told : List Told
   pub queue : PlainQueue
 
+-- only steps belong to a call
+abbrev pub stepOf : PartyCall → Entry → PartyCall
+stepOf c Drain = noCall
+stepOf c ClientStore = noCall
+stepOf c (BeginPut x) = noCall
+stepOf c BeginTake = noCall
+stepOf c WorkerStep = c
+stepOf c (BeginSteal i) = noCall
+stepOf c (ThiefStep i) = c
+
 abbrev pub eventAt : Watch → Entry → Event
-eventAt w e = record { outcome = obey (w .machine) e .outcome; call = callAt w e; told = toldAt w e; queue = w .queue }
+eventAt w e = record { outcome = obey (w .machine) e .outcome; call = stepOf (callAt w e) e; told = toldAt w e; queue = w .queue }
 
 abbrev pub watched : Watch → List Entry → Watch
 watched w [] = w

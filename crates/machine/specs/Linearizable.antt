@@ -3,16 +3,14 @@
 use mathlib.Core.Path.{_≡_}
 use mathlib.Core.Bool.{Bool, true, false, cond}
 use mathlib.Core.List.{List, [], _∷_, _++_, map}
-use Prim.Native.Nat.{ℕ, _+_, _≤_, _^_}
-use lib.Dec.{ltb}
+use Prim.Native.Nat.{ℕ, _+_, _≤_}
 use lib.IntN.{ℤ, pos, negsuc, _+ℤ_, _-ℤ_}
 use lib.ListN.{length, replicate}
-use Rattle.machine.specs.Types.{Entry, Drain, ClientStore, BeginPut, BeginTake, WorkerStep, BeginSteal, ThiefStep, Machine, Outcome, Moved, Place, Early, Wait, Stored, Task, Empty, Abort, Full, End, Sizes, ThiefCall, StealLock, StealLoadHead, StealRaiseHead, StealLoadTail, StealLoadSlot, StealUnlockTask, StealRestoreHead, StealUnlockAbort, WorkerCall, PutLoadHead, PutStoreSlot, PutStoreTail, TakeStoreTail, TakeLoadHead, TakeLoadSlot, TakeLock, TakeReloadHead, TakeRestoreTail, TakeUnlockEmpty, TakeUnlockTask, TakeLoadLastSlot}
+use Rattle.machine.specs.Types.{Entry, Machine, Outcome, Moved, Place, Early, Wait, Stored, Task, Empty, Abort, Full, End, Sizes, ThiefCall, StealLock, StealLoadHead, StealRaiseHead, StealLoadTail, StealLoadSlot, StealUnlockTask, StealRestoreHead, StealUnlockAbort, WorkerCall, PutLoadHead, PutStoreSlot, PutStoreTail, TakeStoreTail, TakeLoadHead, TakeLoadSlot, TakeLock, TakeReloadHead, TakeRestoreTail, TakeUnlockEmpty, TakeUnlockTask, TakeLoadLastSlot}
 use Rattle.machine.specs.Lists.{all, gather, occurrences, upTo}
 use Rattle.machine.specs.Sizes.{enoughMargin, sizesInRange}
 use Rattle.machine.specs.Outcome.{isAnswer}
-use Rattle.machine.specs.Machine.{thiefCall, thiefLoad, workerLoad, workerTail}
-use Rattle.machine.specs.Obey.{thiefIsThere}
+use Rattle.machine.specs.Machine.{thiefCall, memoryLoad, workerLoad, workerTail}
 use Rattle.machine.specs.PlainQueue.{StoredTask, withinLimits}
 use Rattle.machine.specs.Effect.{Begun, nothing, aPut, aTake, aSteal, Event, Party, worker, thief, PartyCall, Watch, events, watchFresh, watched}
 
@@ -57,7 +55,7 @@ thiefOwes m StealLock = []
 thiefOwes m StealLoadHead = []
 thiefOwes m (StealRaiseHead h) = []
 thiefOwes m (StealLoadTail h) = []
-thiefOwes m (StealLoadSlot h) = Task (thiefLoad m h) ∷ []
+thiefOwes m (StealLoadSlot h) = Task (memoryLoad m h) ∷ []
 thiefOwes m (StealUnlockTask x) = Task x ∷ []
 thiefOwes m (StealRestoreHead h) = Abort ∷ []
 thiefOwes m StealUnlockAbort = Abort ∷ []
@@ -86,8 +84,8 @@ abbrev pub tasksOf : Sizes → List Event → Watch → List StoredTask
 tasksOf s h w = gather (λ v. givenTo (v .call)) (answering h) ++ gather (λ p. givenTo (w .calls p)) (parties s) ++ w .queue .tasks
 
 -- the machine's account: the numbers that calls have answered, and those that running calls owe
-abbrev pub numbersHandedOut : Sizes → List Event → Watch → List ℕ
-numbersHandedOut s h w = gather (λ v. taskIn (v .outcome)) h ++ gather taskIn (gather (owes (w .machine)) (parties s))
+abbrev pub numbersAnsweredOrOwed : Sizes → List Event → Watch → List ℕ
+numbersAnsweredOrOwed s h w = gather (λ v. taskIn (v .outcome)) h ++ gather taskIn (gather (owes (w .machine)) (parties s))
 
 -- ── Where no call runs ──────────────────────────────────────────────────────────────────────────────────────────────────────
 
@@ -113,8 +111,8 @@ standingInSlots m =
 
 -- ── The claim ───────────────────────────────────────────────────────────────────────────────────────────────────────────────
 
--- Each part of the claim, of the events h of a run and of the watch w at its end. Each beginning of a list is a list, so what is claimed
--- at the end of every list is claimed at every moment.
+-- Each part of the claim, of the events h of a run and of the watch w at its end. Each prefix of a list is a list, so what is claimed at the
+-- end of every list is claimed at every moment.
 pub record Linearizes (s : Sizes) (h : List Event) (w : Watch) : Type 0 where
   -- "Each answer, 16 to 21 with its value, equals the plain queue's answer to the same call": of each call that has answered, the plain
   -- queue's answers to it since it began are that one answer.
@@ -126,8 +124,8 @@ pub record Linearizes (s : Sizes) (h : List Event) (w : Watch) : Type 0 where
   pub limits : all (λ v. all (withinLimits (s .slots) (v .queue)) (v .told)) h ≡ true
   -- Each STORED put's task was given to one call, or stands, and not both: it is told apart by its put, and stands once in the account.
   pub once : map (λ k. occurrences k (map (λ t. t .put) (tasksOf s h w))) (upTo (w .queue .stored)) ≡ replicate (w .queue .stored) 1
-  -- The machine's account has no other: as many numbers were handed out as puts were STORED and do not stand.
-  pub noOther : length (numbersHandedOut s h w) + length (w .queue .tasks) ≡ w .queue .stored
+  -- The machine's account has no other: as many numbers were answered or are owed as tasks were STORED and do not stand.
+  pub noOther : length (numbersAnsweredOrOwed s h w) + length (w .queue .tasks) ≡ w .queue .stored
   -- "Where no call runs, the numbers of the tasks that stand are, oldest first, what the worker would load from the slots of head up to
   -- its tail − 1."
   pub standing : noCallRuns s w ≡ true → map (λ t. t .number) (w .queue .tasks) ≡ standingInSlots (w .machine)
@@ -135,22 +133,12 @@ pub record Linearizes (s : Sizes) (h : List Event) (w : Watch) : Type 0 where
 abbrev pub Linearizable : Sizes → List Entry → Type 0
 Linearizable s es = Linearizes s (events (watchFresh s) es) (watched (watchFresh s) es)
 
--- an entry with an allowed operand: a put's number has 32 bits, and a thief is there
-abbrev pub isAllowed : Sizes → Entry → Bool
-isAllowed s Drain = true
-isAllowed s ClientStore = true
-isAllowed s (BeginPut x) = ltb x (2 ^ 32)
-isAllowed s BeginTake = true
-isAllowed s WorkerStep = true
-isAllowed s (BeginSteal i) = thiefIsThere s (BeginSteal i)
-isAllowed s (ThiefStep i) = thiefIsThere s (ThiefStep i)
-
--- "a single claim about a whole list": up to 4,096 allowed entries, from the fresh machine, under sizes in range with enough margin
+-- "a single claim about a whole list": up to 4,096 entries, from the fresh machine, under sizes in range with enough margin. An operand that
+-- is not allowed needs no exception: a thief that is not there gets 7.
 abbrev pub Demand3 : Type 0
 Demand3 =
     (s : Sizes) (es : List Entry)
     → sizesInRange s ≡ true
     → enoughMargin s ≡ true
     → length es ≤ 4096
-    → all (isAllowed s) es ≡ true
     → Linearizable s es

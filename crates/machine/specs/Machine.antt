@@ -1,13 +1,12 @@
--- The machine: what it is at first, what the parties load from it, what a step may need, and its parts replaced one by one. Renders the
--- first paragraph of "The machine" and "It starts from the fresh machine" of "Demand 3's plain queue".
+-- The machine: what it is at first, what the parties load from it, what a step may need, and what
+-- an operation hands back. Renders the first paragraph of "The machine" and "It starts from the fresh machine" of "Demand 3's plain queue".
 use mathlib.Core.Bool.{Bool, true, false, cond}
-use mathlib.Core.List.{List}
 use Prim.Native.Nat.{ℕ}
 use lib.Dec.{ltb, eqb}
-use lib.ListN.{getD, set, replicate}
-use Rattle.machine.specs.Types.{Done, Holder, Nobody, TheWorker, TheThief, Index, Machine, Outcome, Wait, Sizes, Store, StoreBuffer, Thief, ThiefCall, WorkerCall}
+use lib.ListN.{getD, replicate}
+use Rattle.machine.specs.Types.{Done, Holder, Nobody, TheWorker, TheThief, Index, Machine, Outcome, Wait, Sizes, Thief, ThiefCall, WorkerCall}
 use Rattle.machine.specs.Index.{indexOf, slotOf}
-use Rattle.machine.specs.StoreBuffer.{emptyBuffer, newestInSlot, newestTail, push}
+use Rattle.machine.specs.StoreBuffer.{emptyBuffer, newestInSlot, newestTail}
 
 -- ── At first ────────────────────────────────────────────────────────────────────────────────────────────────────────────────
 
@@ -36,16 +35,17 @@ fresh s =
 abbrev pub workerTail : Machine → Index
 workerTail m = newestTail (m .tail) (m .buffer)
 
--- "Thieves load memory": the tail, and the slot of an index
+-- "Thieves load memory": the tail ..
 abbrev pub thiefTail : Machine → Index
 thiefTail m = m .tail
 
-abbrev pub thiefLoad : Machine → Index → ℕ
-thiefLoad m i = getD (m .slots) (slotOf (m .sizes .slots) i) 0
+-- .. and what lies in the slot of an index
+abbrev pub memoryLoad : Machine → Index → ℕ
+memoryLoad m i = getD (m .slots) (slotOf (m .sizes .slots) i) 0
 
 -- what the worker loads from the slot of an index
 abbrev pub workerLoad : Machine → Index → ℕ
-workerLoad m i = newestInSlot (m .sizes .slots) (slotOf (m .sizes .slots) i) (thiefLoad m i) (m .buffer)
+workerLoad m i = newestInSlot (m .sizes .slots) (slotOf (m .sizes .slots) i) (memoryLoad m i) (m .buffer)
 
 -- the call of the thief with this number
 abbrev pub thiefCall : Machine → ℕ → ThiefCall
@@ -67,35 +67,6 @@ hasRoom m = ltb (m .buffer .count) (m .sizes .buffer)
 
 abbrev pub nothingPending : Machine → Bool
 nothingPending m = eqb (m .buffer .count) 0
-
--- ── One part replaced ───────────────────────────────────────────────────────────────────────────────────────────────────────
-
-abbrev pub withHead : Index → Machine → Machine
-withHead h m = record { sizes = m .sizes; slots = m .slots; head = h; tail = m .tail; lock = m .lock; buffer = m .buffer; since = m .since; taken = m .taken; worker = m .worker; thieves = m .thieves }
-
-abbrev pub withLock : Holder → Machine → Machine
-withLock l m = record { sizes = m .sizes; slots = m .slots; head = m .head; tail = m .tail; lock = record { holder = l }; buffer = m .buffer; since = m .since; taken = m .taken; worker = m .worker; thieves = m .thieves }
-
-abbrev pub withBuffer : StoreBuffer → Machine → Machine
-withBuffer b m = record { sizes = m .sizes; slots = m .slots; head = m .head; tail = m .tail; lock = m .lock; buffer = b; since = m .since; taken = m .taken; worker = m .worker; thieves = m .thieves }
-
--- slots, tail and pending stores at once, as a drain changes them
-abbrev pub withMemory : List ℕ → Index → StoreBuffer → Machine → Machine
-withMemory l t b m = record { sizes = m .sizes; slots = l; head = m .head; tail = t; lock = m .lock; buffer = b; since = m .since; taken = m .taken; worker = m .worker; thieves = m .thieves }
-
--- the spacing count, and whether a take has begun
-abbrev pub withSpacing : ℕ → Bool → Machine → Machine
-withSpacing n b m = record { sizes = m .sizes; slots = m .slots; head = m .head; tail = m .tail; lock = m .lock; buffer = m .buffer; since = n; taken = b; worker = m .worker; thieves = m .thieves }
-
-abbrev pub withWorker : WorkerCall → Machine → Machine
-withWorker c m = record { sizes = m .sizes; slots = m .slots; head = m .head; tail = m .tail; lock = m .lock; buffer = m .buffer; since = m .since; taken = m .taken; worker = record { call = c }; thieves = m .thieves }
-
-abbrev pub withThief : ℕ → ThiefCall → Machine → Machine
-withThief i c m = record { sizes = m .sizes; slots = m .slots; head = m .head; tail = m .tail; lock = m .lock; buffer = m .buffer; since = m .since; taken = m .taken; worker = m .worker; thieves = set (m .thieves) i (record { call = c }) }
-
--- a store is pending
-abbrev pub pushed : Store → Machine → Machine
-pushed s m = withBuffer (push s (m .buffer)) m
 
 -- ── What an operation hands back ────────────────────────────────────────────────────────────────────────────────────────────
 

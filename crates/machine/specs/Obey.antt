@@ -5,7 +5,8 @@ use mathlib.Core.List.{List, [], _∷_}
 use lib.Dec.{ltb}
 use Rattle.machine.specs.Types.{Done, Entry, Drain, ClientStore, BeginPut, BeginTake, WorkerStep, BeginSteal, ThiefStep, Machine, Outcome, Moved, Wait, Sizes}
 use Rattle.machine.specs.StoreBuffer.{dropOldest, oldest, slotsAfter, tailAfter}
-use Rattle.machine.specs.Machine.{done, needing, nothingPending, thiefCall, withMemory}
+use Rattle.machine.specs.Machine.{done, needing, nothingPending, thiefCall}
+use Rattle.machine.specs.Update.{withMemory}
 use Rattle.machine.specs.InRange.{inRange}
 use Rattle.machine.specs.Worker.{beginPut, beginTake, makeClientStore, stepOfWorker}
 use Rattle.machine.specs.Thief.{beginSteal, stepOfThief}

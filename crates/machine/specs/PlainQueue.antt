@@ -25,10 +25,10 @@ abbrev pub emptyQueue : ℕ → PlainQueue
 emptyQueue start = record { tasks = []; sum = start; stored = 0 }
 
 -- What the queue is told: a call, with the put's number and whether a put is FULL or a steal ABORT.
-pub data Call : Type 0 where
-  putCall : ℕ → Bool → Call
-  takeCall : Call
-  stealCall : Bool → Call
+pub data Told : Type 0 where
+  toldPut : ℕ → Bool → Told
+  toldTake : Told
+  toldSteal : Bool → Told
 
 -- What the queue does about it: the queue after the call, its answer, and the task that left the list, if one did.
 pub record Reply : Type 0 where
@@ -63,16 +63,16 @@ withoutNewest l = take (length l - 1) l
 
 -- END exactly when the sum is 2,147,483,647; EMPTY exactly when no task stands. A steal that is not told ABORT while no task stands breaks
 -- a limit below; the queue answers it ABORT all the same.
-abbrev pub respond : PlainQueue → Call → Reply
-respond q (putCall x full) = cond (eqb (q .sum) 2147483647) (unchanged q End) (cond full (unchanged q Full) (joined x q))
-respond q takeCall = leaves (newest (q .tasks)) (record { tasks = withoutNewest (q .tasks); sum = q .sum - 1; stored = q .stored }) q Empty
-respond q (stealCall true) = unchanged q Abort
-respond q (stealCall false) = leaves (take 1 (q .tasks)) (record { tasks = drop 1 (q .tasks); sum = q .sum; stored = q .stored }) q Abort
+abbrev pub respond : PlainQueue → Told → Reply
+respond q (toldPut x full) = cond (eqb (q .sum) 2147483647) (unchanged q End) (cond full (unchanged q Full) (joined x q))
+respond q toldTake = leaves (newest (q .tasks)) (record { tasks = withoutNewest (q .tasks); sum = q .sum - 1; stored = q .stored }) q Empty
+respond q (toldSteal true) = unchanged q Abort
+respond q (toldSteal false) = leaves (take 1 (q .tasks)) (record { tasks = drop 1 (q .tasks); sum = q .sum; stored = q .stored }) q Abort
 
 -- The limits on what it is told, with n slots, counted just before the call acts: FULL only with n − 1 or more tasks standing, STORED
 -- only with fewer than n, a steal without ABORT only where a task stands.
-abbrev pub withinLimits : ℕ → PlainQueue → Call → Bool
-withinLimits n q (putCall x true) = leb (n - 1) (length (q .tasks))
-withinLimits n q (putCall x false) = eqb (q .sum) 2147483647 || ltb (length (q .tasks)) n
-withinLimits n q takeCall = true
-withinLimits n q (stealCall abort) = abort || ltb 0 (length (q .tasks))
+abbrev pub withinLimits : ℕ → PlainQueue → Told → Bool
+withinLimits n q (toldPut x true) = leb (n - 1) (length (q .tasks))
+withinLimits n q (toldPut x false) = eqb (q .sum) 2147483647 || ltb (length (q .tasks)) n
+withinLimits n q toldTake = true
+withinLimits n q (toldSteal abort) = abort || ltb 0 (length (q .tasks))

@@ -8,12 +8,13 @@ use lib.Dec.{eqb}
 use lib.IntN.{ℤ, pos, negsuc}
 use lib.ListN.{length, replicate}
 use Rattle.machine.specs.Types.{Entry, Drain, ClientStore, BeginPut, BeginTake, WorkerStep, BeginSteal, ThiefStep, Machine, Outcome, Moved, Place, Early, Wait, Stored, Task, Empty, Abort, Full, End, Sizes, PutStoreSlot, PutStoreTail}
-use Rattle.machine.specs.Lists.{gather, upFrom}
+use Rattle.machine.specs.Lists.{all, gather, upFrom}
 use Rattle.machine.specs.Sizes.{neededMargin}
 use Rattle.machine.specs.Outcome.{numberOf, valueOf}
 use Rattle.machine.specs.Index.{eqZ}
 use Rattle.machine.specs.StoreBuffer.{emptyBuffer}
-use Rattle.machine.specs.Machine.{fresh, withMemory, withSpacing, withWorker}
+use Rattle.machine.specs.Machine.{fresh}
+use Rattle.machine.specs.Update.{withMemory, withSpacing, withWorker}
 use Rattle.machine.specs.InRange.{inRange}
 use Rattle.machine.specs.Obey.{obey}
 use Rattle.machine.specs.Effect.{Watch, watchAfter, watchFresh}
@@ -34,28 +35,31 @@ pub data Row : Type 0 where
   margin : (buffer spacing needed : ℕ) → Row
   -- a story that starts at the fresh machine
   story : Sizes → List Line → Row
-  -- a machine in range that the entry, with this outcome, leads out of range, so that the next operation answers 7
+  -- a machine in range that the entry, with this outcome, leads out of range, so that every next operation answers 7
   brink : Machine → Entry → Outcome → Row
 
 abbrev pub sameOutcome : Outcome → Outcome → Bool
 sameOutcome o p = eqb (numberOf o) (numberOf p) && eqb (valueOf o) (valueOf p)
 
-abbrev pub tells : Watch → List Line → Bool
-tells w [] = true
-tells w (does e o ∷ l) = sameOutcome (obey (w .machine) e .outcome) o && tells (watchAfter w e) l
-tells w (headIs z ∷ l) = eqZ (w .machine .head .at) z && tells w l
-tells w (tailIs z ∷ l) = eqZ (w .machine .tail .at) z && tells w l
-tells w (countIs n ∷ l) = eqb (w .machine .since) n && tells w l
-tells w (tasksStand n ∷ l) = eqb (length (w .queue .tasks)) n && tells w l
+abbrev pub oneOfEach : List Entry
+oneOfEach = Drain ∷ ClientStore ∷ BeginPut 1 ∷ BeginTake ∷ WorkerStep ∷ BeginSteal 0 ∷ ThiefStep 0 ∷ []
+
+abbrev pub comesTrue : Watch → List Line → Bool
+comesTrue w [] = true
+comesTrue w (does e o ∷ l) = sameOutcome (obey (w .machine) e .outcome) o && comesTrue (watchAfter w e) l
+comesTrue w (headIs z ∷ l) = eqZ (w .machine .head .at) z && comesTrue w l
+comesTrue w (tailIs z ∷ l) = eqZ (w .machine .tail .at) z && comesTrue w l
+comesTrue w (countIs n ∷ l) = eqb (w .machine .since) n && comesTrue w l
+comesTrue w (tasksStand n ∷ l) = eqb (length (w .queue .tasks)) n && comesTrue w l
 
 abbrev pub holds : Row → Bool
 holds (margin b s n) = eqb (neededMargin b s) n
-holds (story s l) = tells (watchFresh s) l
+holds (story s l) = comesTrue (watchFresh s) l
 holds (brink m e o) =
     inRange m
     && sameOutcome (obey m e .outcome) o
     && not (inRange (obey m e .machine))
-    && sameOutcome (obey (obey m e .machine) Drain .outcome) Wait
+    && all (λ f. sameOutcome (obey (obey m e .machine) f .outcome) Wait) oneOfEach
 
 -- the entries of a story
 abbrev pub entryIn : Line → List Entry
@@ -83,30 +87,30 @@ clientStores n = replicate n (does ClientStore Moved)
 abbrev pub workerMoves : ℕ → List Line
 workerMoves n = replicate n (does WorkerStep Moved)
 
-abbrev pub workerEnds : Outcome → List Line
-workerEnds o = does WorkerStep o ∷ []
+abbrev pub workerGets : Outcome → List Line
+workerGets o = does WorkerStep o ∷ []
 
 abbrev pub thiefMoves : ℕ → List Line
 thiefMoves n = replicate n (does (ThiefStep 0) Moved)
 
-abbrev pub thiefEnds : Outcome → List Line
-thiefEnds o = does (ThiefStep 0) o ∷ []
+abbrev pub thiefGets : Outcome → List Line
+thiefGets o = does (ThiefStep 0) o ∷ []
 
 -- a whole put that is STORED
 abbrev pub puts : ℕ → List Line
-puts x = does (BeginPut x) Moved ∷ workerMoves 2 ++ workerEnds Stored
+puts x = does (BeginPut x) Moved ∷ workerMoves 2 ++ workerGets Stored
 
 -- a whole put that ends at its first step
 abbrev pub putEnds : ℕ → Outcome → List Line
-putEnds x o = does (BeginPut x) Moved ∷ workerEnds o
+putEnds x o = does (BeginPut x) Moved ∷ workerGets o
 
 -- a whole take that needs no lock
 abbrev pub takes : ℕ → List Line
-takes x = does BeginTake Moved ∷ workerMoves 2 ++ workerEnds (Task x)
+takes x = does BeginTake Moved ∷ workerMoves 2 ++ workerGets (Task x)
 
 -- a whole steal
 abbrev pub steals : Outcome → List Line
-steals o = does (BeginSteal 0) Moved ∷ thiefMoves 5 ++ thiefEnds o
+steals o = does (BeginSteal 0) Moved ∷ thiefMoves 5 ++ thiefGets o
 
 -- puts of 1 to n, each fully drained
 abbrev pub filled : ℕ → List Line
@@ -117,7 +121,7 @@ filled n = gather (λ x. puts x ++ drains 2) (upFrom 1 n)
 abbrev pub m1 : List Row
 m1 = margin 33 1 17 ∷ margin 32 0 32 ∷ margin 64 63 1 ∷ []
 
--- two takes undrained, under a thief's eyes that still see the old tail
+-- two takes undrained: memory still has the old tail when a thief comes
 abbrev pub twoTakesThenSteal : Outcome → List Line
 twoTakesThenSteal o = puts 11 ++ drains 2 ++ puts 12 ++ drains 2 ++ takes 12 ++ takes 11 ++ steals o
 
@@ -146,16 +150,16 @@ m5 made =
     puts 1 ++ drains 2 ++ does (BeginSteal 0) Moved ∷ thiefMoves made
     ++ headIs (pos 1) ∷ tasksStand 1 ∷ puts 2
     ++ tasksStand 2 ∷ putEnds 3 Full
-    ++ thiefMoves (5 - made) ++ thiefEnds Abort ++ headIs (pos 0) ∷ []
+    ++ thiefMoves (5 - made) ++ thiefGets Abort ++ headIs (pos 0) ∷ []
 
 -- M6: a take from an empty queue; the tail goes to −1 and back. Lock and unlock wait for the drain.
 abbrev pub m6 : List Line
 m6 =
-    does BeginTake Moved ∷ workerMoves 2 ++ workerEnds Wait ++ drains 1
-    ++ tailIs (negsuc 0) ∷ workerMoves 3 ++ workerEnds Wait ++ drains 1
-    ++ tailIs (pos 0) ∷ workerEnds Empty
+    does BeginTake Moved ∷ workerMoves 2 ++ workerGets Wait ++ drains 1
+    ++ tailIs (negsuc 0) ∷ workerMoves 3 ++ workerGets Wait ++ drains 1
+    ++ tailIs (pos 0) ∷ workerGets Empty
 
--- M7: the last index, and the one before it
+-- M7: the tail's greatest value, and the one before it
 abbrev pub m7 : List Line
 m7 = putEnds 1 End
 
@@ -174,12 +178,12 @@ abbrev pub m9 : List Line
 m9 =
     puts 7 ++ drains 2 ++ does (BeginSteal 0) Moved ∷ thiefMoves 3
     ++ headIs (pos 1) ∷ does BeginTake Moved ∷ workerMoves 2 ++ drains 1
-    ++ workerEnds Wait ++ thiefMoves 2 ++ thiefEnds Abort
-    ++ workerMoves 3 ++ workerEnds (Task 7)
+    ++ workerGets Wait ++ thiefMoves 2 ++ thiefGets Abort
+    ++ workerMoves 3 ++ workerGets (Task 7)
 
 -- "The program's lines"
 abbrev pub exampleLines : List Line
-exampleLines = does (BeginPut 7) Moved ∷ workerMoves 2 ++ does WorkerStep Wait ∷ drains 1 ++ workerEnds Stored
+exampleLines = does (BeginPut 7) Moved ∷ workerMoves 2 ++ does WorkerStep Wait ∷ drains 1 ++ workerGets Stored
 
 -- "Rounding the needed margin down: buffer 33, spacing 1 gives 16": 17 takes are pending at once, with a client store between each two
 abbrev pub seventeenTakesThenSteal : Outcome → List Line
@@ -189,11 +193,15 @@ seventeenTakesThenSteal o = filled 17 ++ takes 17 ++ gather (λ k. clientStores 
 abbrev pub slotAboutToBeLoaded : List Line
 slotAboutToBeLoaded =
     puts 1 ++ drains 2 ++ does (BeginSteal 0) Moved ∷ thiefMoves 3 ++ puts 2 ++ drains 2
-    ++ thiefMoves 1 ++ putEnds 3 Full ++ thiefMoves 1 ++ thiefEnds (Task 1)
+    ++ thiefMoves 1 ++ putEnds 3 Full ++ thiefMoves 1 ++ thiefGets (Task 1)
 
 -- "A thief that sees pending stores": the tasks are there for it only once they have drained
 abbrev pub thiefSeesMemory : List Line
 thiefSeesMemory = puts 1 ++ puts 2 ++ tailIs (pos 0) ∷ steals Abort ++ drains 4 ++ tailIs (pos 2) ∷ steals (Task 1)
+
+-- the same for a slot: task 9 is pending for slot 0, and a thief still loads task 1 there; the margin is short, so that it gets so far
+abbrev pub thiefLoadsMemory : List Line
+thiefLoadsMemory = filled 2 ++ takes 2 ++ takes 1 ++ puts 9 ++ steals (Task 1)
 
 -- "a worker that loads its tail from memory": its own puts count before they have drained
 abbrev pub workerSeesPending : List Line
@@ -203,9 +211,9 @@ workerSeesPending = puts 1 ++ puts 2 ++ tailIs (pos 0) ∷ takes 2 ++ takes 1 ++
 abbrev pub tailAtMargin : List Line
 tailAtMargin = filled 1 ++ steals Abort ++ puts 2 ++ drains 2 ++ steals (Task 1)
 
--- "An unsigned tail": head is ahead of the tail, since a thief has raised it over an empty queue
+-- "An unsigned tail", besides M6's tail of −1: the differences are negative, since a thief has raised head over an empty queue
 abbrev pub headAheadOfTail : List Line
-headAheadOfTail = does (BeginSteal 0) Moved ∷ thiefMoves 3 ++ headIs (pos 1) ∷ puts 1 ++ thiefMoves 2 ++ thiefEnds Abort ++ drains 2 ++ takes 1
+headAheadOfTail = does (BeginSteal 0) Moved ∷ thiefMoves 3 ++ headIs (pos 1) ∷ puts 1 ++ thiefMoves 2 ++ thiefGets Abort ++ drains 2 ++ takes 1
 
 -- a steal without ABORT where one task stands: the worker has taken the others, unseen
 abbrev pub lastTaskStanding : List Line
@@ -257,6 +265,7 @@ stories =
     ∷ story (sizes 32 33 1 17 1 0) (seventeenTakesThenSteal Abort)
     ∷ story (sizes 2 2 1 1 1 0) slotAboutToBeLoaded
     ∷ story (sizes 4 8 7 1 1 0) thiefSeesMemory
+    ∷ story (sizes 4 4 0 1 1 0) thiefLoadsMemory
     ∷ story (sizes 4 8 0 8 1 0) workerSeesPending
     ∷ story (sizes 4 2 1 1 1 0) tailAtMargin
     ∷ story (sizes 4 2 0 2 1 0) headAheadOfTail

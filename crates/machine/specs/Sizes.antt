@@ -30,13 +30,13 @@ firstFault place (kept ∷ l) = cond kept (firstFault (place + 1) l) (OutOfRange
 abbrev pub checkSizes : Sizes → SizeCheck
 checkSizes s = firstFault 0 (rangesKept s)
 
-abbrev pub isInRange : SizeCheck → Bool
-isInRange AllInRange = true
-isInRange (OutOfRange place) = false
+abbrev pub noFault : SizeCheck → Bool
+noFault AllInRange = true
+noFault (OutOfRange place) = false
 
 -- every size is in its range
 abbrev pub sizesInRange : Sizes → Bool
-sizesInRange s = isInRange (checkSizes s)
+sizesInRange s = noFault (checkSizes s)
 
 -- "0 stands for the buffer size", for the margin only
 abbrev pub marginInUse : Sizes → ℕ

@@ -1,5 +1,6 @@
 -- The store buffer. Renders, of "The machine", the sentences from "The worker has a first-in, first-out list of pending stores" to
--- "The worker loads the newest pending value of a place, or memory if none is pending". It knows nothing of the queue's calls.
+-- "The worker loads the newest pending value of a place, or memory if none is pending". (How many may be pending: `hasRoom` in `Machine`.)
+-- It knows nothing of the queue's calls.
 use mathlib.Core.Bool.{cond}
 use mathlib.Core.List.{List, _∷_, _++_, foldl}
 use Prim.Native.Nat.{ℕ, _+_, _-_}
@@ -52,8 +53,8 @@ slotsAfter n slots Client = slots
 slotsAfter n slots (Tail u) = slots
 slotsAfter n slots (Slot i x) = set slots (slotOf n i) x
 
--- "The worker loads the newest pending value of a place, or memory if none is pending": from memory's value on, each pending store to
--- the place takes the place of what was found before it. The place of a slot store is the slot, so indices a multiple of n apart meet.
+-- "The worker loads the newest pending value of a place, or memory if none is pending": from memory's value on, oldest first, each
+-- pending store to that place supersedes what was found so far. The place of a slot store is its slot, whichever index led there.
 
 abbrev pub newestTail : Index → StoreBuffer → Index
 newestTail t b = foldl (λ u s. tailAfter u (s .kind)) t (pending b)

@@ -7,7 +7,8 @@ use lib.Signed.{ltZ}
 use Rattle.machine.specs.Types.{Done, Index, Machine, Nobody, TheThief, Outcome, Moved, Place, Task, Abort, ThiefCall, StealLock, StealLoadHead, StealRaiseHead, StealLoadTail, StealLoadSlot, StealUnlockTask, StealRestoreHead, StealUnlockAbort}
 use Rattle.machine.specs.Sizes.{marginInUse}
 use Rattle.machine.specs.Index.{next}
-use Rattle.machine.specs.Machine.{done, lockIsFree, needing, thiefCall, thiefLoad, thiefTail, withHead, withLock, withThief}
+use Rattle.machine.specs.Machine.{done, lockIsFree, memoryLoad, needing, thiefCall, thiefTail}
+use Rattle.machine.specs.Update.{withHead, withLock, withThief}
 
 -- ── How a step ends ─────────────────────────────────────────────────────────────────────────────────────────────────────────
 
@@ -43,7 +44,7 @@ stealLoadTail i h m = cond (marginKept h m) (thiefGoesOn i (StealLoadSlot h) m) 
 
 -- (5) load the slot of h
 abbrev pub stealLoadSlot : ℕ → Index → Machine → Done
-stealLoadSlot i h m = thiefGoesOn i (StealUnlockTask (thiefLoad m h)) m
+stealLoadSlot i h m = thiefGoesOn i (StealUnlockTask (memoryLoad m h)) m
 
 -- (5) head becomes h, where the margin is not kept
 abbrev pub stealRestoreHead : ℕ → Index → Machine → Done

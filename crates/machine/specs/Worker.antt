@@ -8,7 +8,8 @@ use lib.Signed.{leZ}
 use Rattle.machine.specs.Types.{Done, Index, Machine, Nobody, TheWorker, Outcome, Moved, Place, Early, Stored, Task, Empty, Full, End, WorkerCall, PutLoadHead, PutStoreSlot, PutStoreTail, TakeStoreTail, TakeLoadHead, TakeLoadSlot, TakeLock, TakeReloadHead, TakeRestoreTail, TakeUnlockEmpty, TakeUnlockTask, TakeLoadLastSlot}
 use Rattle.machine.specs.Index.{eqZ, next, previous}
 use Rattle.machine.specs.StoreBuffer.{clientStore, tailStore, slotStore}
-use Rattle.machine.specs.Machine.{done, hasRoom, lockIsFree, needing, nothingPending, pushed, withLock, withSpacing, withWorker, workerLoad, workerTail}
+use Rattle.machine.specs.Machine.{done, hasRoom, lockIsFree, needing, nothingPending, workerLoad, workerTail}
+use Rattle.machine.specs.Update.{pushed, withLock, withSpacing, withWorker}
 
 -- ── How a step ends ─────────────────────────────────────────────────────────────────────────────────────────────────────────
 
@@ -22,7 +23,7 @@ workerAnswers o m = done o (withWorker WorkerCall.Idle m)
 
 -- ── Put ─────────────────────────────────────────────────────────────────────────────────────────────────────────────────────
 
--- the worker's tail has reached the last index
+-- the worker's tail has its greatest value
 abbrev pub atEnd : Machine → Bool
 atEnd m = eqZ (workerTail m .at) (pos 2147483647)
 

@@ -1,4 +1,4 @@
-use crate::test::both;
+use crate::boolean::both;
 ghost use mathlib.Core.Path.{_≡_};
 ghost use Rattle.machine.specs.Index.{indexFrom, indexInRange, slotIndexInRange};
 
@@ -17,14 +17,14 @@ impl Index {
         both(least <= at, at <= 2147483648)
     }
 
-    // Whether a machine may hold it as head, as tail or in a call.
+    // Whether a machine may hold it where it is not only there to reach a slot.
     pub(crate) fn in_range(self) -> bool
         ensures { λ r. ⌜ r ≡ indexInRange self ⌝ }
     {
         self.in_range_from(-1)
     }
 
-    // Whether a machine may hold it as the index of a slot.
+    // Whether a machine may hold it in order to reach its slot.
     pub(crate) fn slot_in_range(self) -> bool
         ensures { λ r. ⌜ r ≡ slotIndexInRange self ⌝ }
     {

@@ -1,10 +1,12 @@
-// The lower library of the rehearsal bench: one FF-THE work-stealing queue on a machine with late stores.
+// The lower library of the rehearsal bench: one work-stealing queue, FF-THE of Morrison and Afek, on a machine with late
+// stores.
 //
 // One worker owns the tail end of a cyclic array of slots: it puts tasks there and takes them back, newest first. Up to
 // eight thieves steal from the head end, oldest first. The worker's stores do not reach memory at once: they wait in a
 // first-in, first-out store buffer, and a drain moves the oldest of them to memory. A thief sees memory alone. So a thief
 // may look at a tail that the worker has long left behind, and it steals only where the tail that it sees is further
-// from the head than a margin; with a margin that is large enough for the buffer, no task is handed out twice.
+// from the head than a margin; with a margin that is large enough for the buffer and for how far takes are spaced apart,
+// no task is handed out twice.
 //
 // Every step of every party is an entry of a schedule, and an entry is obeyed as a whole. Reading order:
 //
@@ -15,13 +17,13 @@
 // - `store_buffer`: the pending stores;
 // - `worker`, `thief`: the calls in progress, one case for each step that may be next;
 // - `machine`: memory, lock, store buffer and calls together, and whether all of it is in range.
+mod boolean;
 mod entry;
 mod index;
 mod machine;
 mod outcome;
 mod sizes;
 mod store_buffer;
-mod test;
 mod thief;
 mod worker;
 

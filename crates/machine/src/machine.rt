@@ -1,8 +1,8 @@
+use crate::boolean::both;
 use crate::index::Index;
 use crate::outcome::Outcome;
 use crate::sizes::Sizes;
 use crate::store_buffer::StoreBuffer;
-use crate::test::both;
 use crate::thief::Thief;
 use crate::thief::thieves_in_range;
 use crate::worker::Worker;

@@ -9,7 +9,7 @@ pub enum Outcome {
     Place,
     // A take was begun against the spacing rule.
     Early,
-    // What the step needs is not there yet.
+    // What the step needs is not there yet; or the machine is out of range, or the thief is not there.
     Wait,
     // A put ends: its task is in the queue.
     Stored,
@@ -21,7 +21,7 @@ pub enum Outcome {
     Abort,
     // A put ends: as far as the worker can tell, at most one slot is free, and that one stays so.
     Full,
-    // A put ends: the last index is reached.
+    // A put ends: the tail has its greatest value.
     End,
 }
 

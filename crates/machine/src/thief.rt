@@ -1,5 +1,5 @@
+use crate::boolean::both;
 use crate::index::Index;
-use crate::test::both;
 ghost use mathlib.Core.Path.{_≡_};
 ghost use Rattle.machine.specs.InRange.{thiefInRange};
 ghost use Rattle.machine.specs.Lists.{all};

@@ -22,13 +22,13 @@ pub enum WorkerCall {
     TakeLock(Index),
     // Take, step 4: load head again.
     TakeReloadHead(Index),
-    // Take, step 5 where no task is left: store the old tail.
+    // Take, step 5 where the task is gone: store the old tail.
     TakeRestoreTail(Index),
-    // Take, step 6 where no task is left: unlock.
+    // Take, step 6 where the task is gone: unlock.
     TakeUnlockEmpty,
-    // Take, step 5 where the task is left: unlock.
+    // Take, step 5 where the task is still there: unlock.
     TakeUnlockTask(Index),
-    // Take, step 6 where the task is left: load the slot.
+    // Take, step 6 where the task is still there: load the slot.
     TakeLoadLastSlot(Index),
 }
 

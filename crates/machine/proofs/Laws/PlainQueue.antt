@@ -7,14 +7,14 @@ use native.Mathlib.Omega.{arith}
 use lib.Dec.{eqb}
 use lib.ListN.{length, take, drop, length-append, length-take, length-drop}
 use Rattle.machine.specs.Types.{Outcome, Empty, Abort}
-use Rattle.machine.specs.PlainQueue.{Call, putCall, takeCall, stealCall, PlainQueue, Reply, StoredTask, emptyQueue, joined, leaves, newest, respond, unchanged, withoutNewest}
+use Rattle.machine.specs.PlainQueue.{Told, toldPut, toldTake, toldSteal, PlainQueue, Reply, StoredTask, emptyQueue, joined, leaves, newest, respond, unchanged, withoutNewest}
 use Rattle.machine.proofs.Laws.Tests.{either}
 
 -- how many tasks a call gives to the worker
-abbrev pub takenBy : PlainQueue → Call → ℕ
-takenBy q (putCall x full) = 0
-takenBy q takeCall = length (respond q takeCall .given)
-takenBy q (stealCall abort) = 0
+abbrev pub takenBy : PlainQueue → Told → ℕ
+takenBy q (toldPut x full) = 0
+takenBy q toldTake = length (respond q toldTake .given)
+takenBy q (toldSteal abort) = 0
 
 -- A reply with its account: the tasks that left and those that stand are those that stood and the one that joined; the sum has grown by
 -- what joined and fallen by what the worker took; and no fewer than the tasks that stand.
@@ -42,29 +42,29 @@ module _ (q : PlainQueue) (covered : length (q .tasks) ≤ q .sum) where
       let some : 0 < length (q .tasks) = omega (arith, simp length-take at (ap length e)) in
       record { tasks = simp length-drop (omega arith); sum = omega arith; covers = simp length-drop (omega arith) }
 
-  pub respond-balances : (c : Call) → Balances q (takenBy q c) (respond q c)
-  respond-balances (putCall x full) = either (Balances q 0) (eqb (q .sum) 2147483647) (unchanged-balances _) (either (Balances q 0) full (unchanged-balances _) (joined-balances x))
-  respond-balances takeCall = take-balances (newest (q .tasks)) refl
-  respond-balances (stealCall true) = unchanged-balances _
-  respond-balances (stealCall false) = steal-balances (take 1 (q .tasks)) refl
+  pub respond-balances : (c : Told) → Balances q (takenBy q c) (respond q c)
+  respond-balances (toldPut x full) = either (Balances q 0) (eqb (q .sum) 2147483647) (unchanged-balances _) (either (Balances q 0) full (unchanged-balances _) (joined-balances x))
+  respond-balances toldTake = take-balances (newest (q .tasks)) refl
+  respond-balances (toldSteal true) = unchanged-balances _
+  respond-balances (toldSteal false) = steal-balances (take 1 (q .tasks)) refl
 
 -- ── A list of calls ─────────────────────────────────────────────────────────────────────────────────────────────────────────
 
-abbrev pub after : PlainQueue → List Call → PlainQueue
+abbrev pub after : PlainQueue → List Told → PlainQueue
 after q [] = q
 after q (c ∷ cs) = after (respond q c .queue) cs
 
 -- how many tasks the calls give to the worker
-abbrev pub takenIn : PlainQueue → List Call → ℕ
+abbrev pub takenIn : PlainQueue → List Told → ℕ
 takenIn q [] = 0
 takenIn q (c ∷ cs) = takenBy q c + takenIn (respond q c .queue) cs
 
-sum-grows : (q : PlainQueue) (cs : List Call) → length (q .tasks) ≤ q .sum → after q cs .sum + takenIn q cs + q .stored ≡ q .sum + after q cs .stored
+sum-grows : (q : PlainQueue) (cs : List Told) → length (q .tasks) ≤ q .sum → after q cs .sum + takenIn q cs + q .stored ≡ q .sum + after q cs .stored
 sum-grows q [] covered = omega arith
 sum-grows q (c ∷ cs) covered =
     let b = respond-balances q covered c in
     omega (arith, sum-grows (respond q c .queue) cs (b .covers))
 
 -- "So the sum is start + stored − taken by the worker."
-pub sum-counts : (start : ℕ) (cs : List Call) → after (emptyQueue start) cs .sum + takenIn (emptyQueue start) cs ≡ start + after (emptyQueue start) cs .stored
+pub sum-counts : (start : ℕ) (cs : List Told) → after (emptyQueue start) cs .sum + takenIn (emptyQueue start) cs ≡ start + after (emptyQueue start) cs .stored
 sum-counts start cs = omega (arith, sum-grows (emptyQueue start) cs zero-le)

@@ -1,7 +1,7 @@
 -- `Sizes::in_range` meets its contract, by the cases of what `check` answers.
 use mathlib.Core.Path.{sym, ap}
 use borrow.Author.Needs.{needs}
-use Rattle.machine.specs.Sizes.{isInRange}
+use Rattle.machine.specs.Sizes.{noFault}
 use Rattle.machine.proofs.Laws.Tests.{known}
 use Rattle.machine.proofs.sizes.Sizes.in_range.Statement.{statement}
 use Rattle.machine.proofs.sizes.Sizes.in_range.Tie as tie
@@ -16,10 +16,10 @@ enum-told-2 : tie.Need-enum-told-2
 enum-told-2 c = search needs
 
 returns : tie.Need-returns
-returns c = sym (ap isInRange (known (c .before .before .check .ensures) (c .enum-told .given .1)))
+returns c = sym (ap noFault (known (c .before .before .check .ensures) (c .enum-told .given .1)))
 
 returns-2 : tie.Need-returns-2
-returns-2 c = sym (ap isInRange (known (c .before .before .check .ensures) (c .enum-told2 .given .1)))
+returns-2 c = sym (ap noFault (known (c .before .before .check .ensures) (c .enum-told2 .given .1)))
 
 pub in-range-spec : {M : Type 1} → statement M
 in-range-spec = tie.close (tie.spec check-requires enum-told enum-told-2 returns returns-2)

@@ -1,0 +1,34 @@
+-- A machine with one part replaced and every other as it was. There is nothing here to believe but that.
+use mathlib.Core.Bool.{Bool}
+use mathlib.Core.List.{List}
+use Prim.Native.Nat.{ℕ}
+use lib.ListN.{set}
+use Rattle.machine.specs.Types.{Holder, Index, Machine, Store, StoreBuffer, ThiefCall, WorkerCall}
+use Rattle.machine.specs.StoreBuffer.{push}
+
+abbrev pub withHead : Index → Machine → Machine
+withHead h m = record { sizes = m .sizes; slots = m .slots; head = h; tail = m .tail; lock = m .lock; buffer = m .buffer; since = m .since; taken = m .taken; worker = m .worker; thieves = m .thieves }
+
+abbrev pub withLock : Holder → Machine → Machine
+withLock l m = record { sizes = m .sizes; slots = m .slots; head = m .head; tail = m .tail; lock = record { holder = l }; buffer = m .buffer; since = m .since; taken = m .taken; worker = m .worker; thieves = m .thieves }
+
+abbrev pub withBuffer : StoreBuffer → Machine → Machine
+withBuffer b m = record { sizes = m .sizes; slots = m .slots; head = m .head; tail = m .tail; lock = m .lock; buffer = b; since = m .since; taken = m .taken; worker = m .worker; thieves = m .thieves }
+
+-- slots, tail and pending stores at once, as a drain changes them
+abbrev pub withMemory : List ℕ → Index → StoreBuffer → Machine → Machine
+withMemory l t b m = record { sizes = m .sizes; slots = l; head = m .head; tail = t; lock = m .lock; buffer = b; since = m .since; taken = m .taken; worker = m .worker; thieves = m .thieves }
+
+-- the spacing count, and whether a take has begun
+abbrev pub withSpacing : ℕ → Bool → Machine → Machine
+withSpacing n b m = record { sizes = m .sizes; slots = m .slots; head = m .head; tail = m .tail; lock = m .lock; buffer = m .buffer; since = n; taken = b; worker = m .worker; thieves = m .thieves }
+
+abbrev pub withWorker : WorkerCall → Machine → Machine
+withWorker c m = record { sizes = m .sizes; slots = m .slots; head = m .head; tail = m .tail; lock = m .lock; buffer = m .buffer; since = m .since; taken = m .taken; worker = record { call = c }; thieves = m .thieves }
+
+abbrev pub withThief : ℕ → ThiefCall → Machine → Machine
+withThief i c m = record { sizes = m .sizes; slots = m .slots; head = m .head; tail = m .tail; lock = m .lock; buffer = m .buffer; since = m .since; taken = m .taken; worker = m .worker; thieves = set (m .thieves) i (record { call = c }) }
+
+-- a store is pending
+abbrev pub pushed : Store → Machine → Machine
+pushed s m = withBuffer (push s (m .buffer)) m
