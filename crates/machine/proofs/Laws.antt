@@ -5,3 +5,4 @@ pub mod StoreBuffer
 pub mod Refusals
 pub mod PlainQueue
 pub mod Index
+pub mod Chain

@@ -2,7 +2,8 @@
 -- those of the natural numbers.
 use mathlib.Core.Path.{_≡_, refl, ap, sym, _∙_}
 use mathlib.Core.Bool.{Bool, true, false, cond, not, _&&_}
-use Prim.Native.Nat.{ℕ, zero, suc, _+_, _-_, _%_, _≤_, _<_, zero-le}
+use Prim.Native.Nat.{ℕ, zero, suc, _+_, _-_, _*_, _/_, _%_, _≤_, _<_, zero-le}
+use native.Mathlib.Nat.{div-add-mod, mul-le-mul-left, mul-suc}
 use native.Mathlib.Omega.{arith}
 use lib.Dec.{eqb, leb, ltb}
 use lib.IntN.{ℤ, pos, negsuc, subℕ, _+ℤ_, _-ℤ_, +ℤ-idr}
@@ -123,3 +124,20 @@ idx-in-range k = rw (idx-le 0 k, le-leb 0 k zero-le) (idx-le k 2147483649)
 
 pub idx-slot-in-range : (k : ℕ) → slotIndexInRange (idx k) ≡ (leb 1 k && leb k 2147483649)
 idx-slot-in-range k = rw (idx-le 1 k) (ap (λ b. leb 1 k && b) (idx-le k 2147483649))
+
+-- ── Slots ───────────────────────────────────────────────────────────────────────────────────────────────────────────────────
+
+-- of two numbers less than n apart, the one with the lower quotient by n is lower in its remainder's place too
+quotient-apart : (n a b r : ℕ) → a < b → n * a + r + n ≤ n * b + r
+quotient-apart n a b r h = let k : n * suc a ≤ n * b = mul-le-mul-left n h in omega (arith, simp mul-suc at k)
+
+-- indices of a window of n lie in slots of their own
+pub slots-apart : (n lo i j : ℕ) → lo ≤ i → i < lo + n → lo ≤ j → j < lo + n → i % n ≡ j % n → i ≡ j
+slots-apart n lo i j a b c d same = go (ltb (i / n) (j / n)) (ltb (j / n) (i / n)) refl refl
+  where
+    go : (s t : Bool) → ltb (i / n) (j / n) ≡ s → ltb (j / n) (i / n) ≡ t → i ≡ j
+    go true t e f = absurd (omega (arith, quotient-apart n (i / n) (j / n) (i % n) (ltb-true _ _ e), div-add-mod i n, div-add-mod j n))
+    go false true e f = absurd (omega (arith, quotient-apart n (j / n) (i / n) (j % n) (ltb-true _ _ f), div-add-mod i n, div-add-mod j n))
+    go false false e f =
+        let q : i / n ≡ j / n = omega (arith, ltb-false (i / n) (j / n) e, ltb-false (j / n) (i / n) f) in
+        sym (div-add-mod i n) ∙ (λ k. n * q k + same k) ∙ div-add-mod j n
