@@ -1,10 +1,6 @@
 use crate::boolean::both;
 ghost use mathlib.Core.Path.{_≡_};
-ghost use mathlib.Core.Bool.{true};
-ghost use Prim.Native.Nat.{_<_};
-ghost use lib.IntN.{pos};
-ghost use lib.Signed.{leZ};
-ghost use Rattle.machine.specs.Index.{indexFrom, indexInRange, slotIndexInRange, slotOf};
+ghost use Rattle.machine.specs.Index.{indexFrom, indexInRange, slotIndexInRange};
 
 // A position of the queue: a value of head or tail, or the place of a task. It never wraps; a slot is found by its
 // remainder. -1 is a true value: a take from an empty queue that starts at 0 stores it as the tail.
@@ -34,13 +30,4 @@ impl Index {
     {
         self.in_range_from(0)
     }
-}
-
-// The slot in which an index lies that is not below 0.
-pub(crate) fn slot_of(index: Index, slots: u32) -> usize
-    requires { ⌜ (leZ (pos 0) (index .at) ≡ true) × (0 < slots) ⌝ }
-    ensures { λ r. ⌜ r ≡ slotOf slots index ⌝ }
-{
-    let at = index.at;
-    (at as usize) % (slots as usize)
 }

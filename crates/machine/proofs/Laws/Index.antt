@@ -1,18 +1,16 @@
 -- Indices as natural numbers, one above: 0 for −1, k + 1 for k. Their sums, orders and differences in ℤ, as the definitions have them, are
 -- those of the natural numbers.
 use mathlib.Core.Path.{_≡_, refl, ap, sym, _∙_}
-use mathlib.Core.Bool.{Bool, true, false, cond, not, _&&_, false≢true}
+use mathlib.Core.Bool.{Bool, true, false, cond, not, _&&_}
 use Prim.Native.Nat.{ℕ, zero, suc, _+_, _-_, _*_, _/_, _%_, _≤_, _<_, zero-le}
-use native.Mathlib.Nat.{div-add-mod, lt-of-le-of-lt, mul-le-mul-left, mul-suc}
+use native.Mathlib.Nat.{div-add-mod, mul-le-mul-left, mul-suc}
 use native.Mathlib.Omega.{arith}
-use lib.Dec.{T, eqb, leb, lit<, ltb}
-use lib.IntN.{ℤ, natAbs, negsuc, pos, subℕ, _+ℤ_, _-ℤ_, +ℤ-idr}
-use lib.Signed.{leZ, ltZ, natAbs-le, nonNeg}
-use mir.Syntax.{w64}
-use mir.Val.{Fits, SFits}
+use lib.Dec.{eqb, leb, ltb}
+use lib.IntN.{ℤ, pos, negsuc, subℕ, _+ℤ_, _-ℤ_, +ℤ-idr}
+use lib.Signed.{leZ, ltZ}
 use borrow.Author.Tests.{eqb-false, eqb-true, le-leb, le-ltb, leb-false, leb-true, lt-leb, lt-ltb, ltb-false, ltb-true}
 use Rattle.machine.specs.Types.{Index}
-use Rattle.machine.specs.Index.{eqZ, indexInRange, modulo, next, previous, slotIndexInRange, slotOf}
+use Rattle.machine.specs.Index.{eqZ, indexInRange, next, previous, slotIndexInRange, slotOf}
 
 -- two tests of an order agree where the orders do
 leb-iff : (a b c d : ℕ) → (a ≤ b → c ≤ d) → (c ≤ d → a ≤ b) → leb a b ≡ leb c d
@@ -143,16 +141,3 @@ slots-apart n lo i j a b c d same = go (ltb (i / n) (j / n)) (ltb (j / n) (i / n
     go false false e f =
         let q : i / n ≡ j / n = omega (arith, ltb-false (i / n) (j / n) e, ltb-false (j / n) (i / n) f) in
         sym (div-add-mod i n) ∙ (λ k. n * q k + same k) ∙ div-add-mod j n
-
--- ── An integer that is not below 0, as a number of 64 bits ──────────────────────────────────────────────────────────────────
-
-pub not-negative : (z : ℤ) → leZ (pos 0) z ≡ true → T (nonNeg z)
-not-negative (pos n) h = tt
-not-negative (negsuc n) h = absurd (false≢true h)
-
-pub natAbs-modulo : (z : ℤ) (n : ℕ) → leZ (pos 0) z ≡ true → natAbs z % n ≡ modulo z n
-natAbs-modulo (pos k) n h = refl
-natAbs-modulo (negsuc k) n h = absurd (false≢true h)
-
-pub natAbs-fits : (z : ℤ) → SFits w64 z → Fits w64 (natAbs z)
-natAbs-fits z h = record { fits = lt-of-le-of-lt (natAbs-le z (h .sfits)) (lit< tt) }

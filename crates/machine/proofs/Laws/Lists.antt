@@ -1,17 +1,15 @@
 -- Laws of tests over a list, and of lists whose elements are all replaced by a function.
 use mathlib.Core.Path.{_≡_, refl, ap, sym, _∙_}
 use mathlib.Core.Bool.{Bool, true, false, cond, _&&_}
-use mathlib.Core.List.{List, [], _∷_, _++_, foldl, foldl-append, map}
+use mathlib.Core.List.{List, [], _∷_, _++_, foldl, map}
 use Prim.Native.Nat.{ℕ, zero, suc, _+_, _≤_, _<_}
-use native.Mathlib.Nat.{le-of-suc-le-suc, not-suc-le-zero}
-use native.Mathlib.Numerals.{add-one, one-add}
+use native.Mathlib.Nat.{not-suc-le-zero}
+use native.Mathlib.Numerals.{add-one}
 use lib.Dec.{eqb}
-use native.Mathlib.Omega.{arith}
-use lib.ListN.{length, getD, take, drop, set, replicate, length-drop, length-take}
-use lib.Seq.{append-snoc, drop-cons, getD-append-add, getD-drop, getD-set-other, getD-set-same, set-at, take-all, take-nil, take-suc}
+use lib.ListN.{length, getD, take, drop, set, replicate}
+use lib.Seq.{getD-set-other, getD-set-same, take-all, take-suc}
 use borrow.Author.Tests.{eqb-false, eqb-true}
 use Rattle.machine.specs.Lists.{all}
-use Rattle.machine.proofs.Laws.Tests.{both-left, both-right}
 
 &&-assoc : (a b c : Bool) → (a && (b && c)) ≡ (a && b && c)
 &&-assoc true b c = refl
@@ -29,17 +27,6 @@ module _ {A : Type 0} (f : A → Bool) where
   -- a loop's turn: one element more has been tested
   pub all-more : (l : List A) (i : ℕ) (d : A) → i < length l → all f (take (i + 1) l) ≡ (all f (take i l) && f (getD l i d))
   all-more l i d h = rw (add-one, take-suc l i d) (all-snoc (take i l) (getD l i d))
-
-  -- a test that all the first n passed, and the default, each of them passed
-  pub all-at : (l : List A) (n i : ℕ) (d : A) → f d ≡ true → all f (take n l) ≡ true → i < n → f (getD l i d) ≡ true
-  all-at [] n i d e p h = e
-  all-at (x ∷ l) zero i d e p h = absurd (not-suc-le-zero h)
-  all-at (x ∷ l) (suc n) zero d e p h = both-left (f x) (all f (take n l)) p
-  all-at (x ∷ l) (suc n) (suc i) d e p h = all-at l n i d e (both-right (f x) (all f (take n l)) p) (le-of-suc-le-suc h)
-
--- a loop's turn: one element more has been gone through
-pub foldl-more : {A B : Type 0} (f : B → A → B) (v : B) (l : List A) (i : ℕ) (d : A) → i < length l → foldl f v (take (i + 1) l) ≡ f (foldl f v (take i l)) (getD l i d)
-foldl-more f v l i d h = rw (add-one, take-suc l i d) (foldl-append f v (take i l) (getD l i d ∷ []))
 
 -- a list taken to its end and past it is the whole list, however far
 pub take-whole : {A : Type 0} (l : List A) (i j : ℕ) → length l ≤ i → length l ≤ j → take i l ≡ take j l
@@ -90,34 +77,3 @@ module _ {A B : Type 0} (g : A → B) where
       → (c : C) (l : List A) → foldl s (h c) (map g l) ≡ h (foldl t c l)
   foldl-map h s t e c [] = refl
   foldl-map h s t e c (x ∷ l) = ap (λ d. foldl s d (map g l)) (e c x) ∙ foldl-map h s t e (t c x) l
-
--- ── Moving the front of a list one place down ───────────────────────────────────────────────────────────────────────────────
-
-module _ {A : Type 0} (l : List A) where
-  -- the first k places hold what stood one place further, the others what they held
-  abbrev pub shifted : ℕ → List A
-  shifted k = take k (drop 1 l) ++ drop k l
-
-  module _ (k : ℕ) (there : k < length l) where
-    length-front : length (take k (drop 1 l)) ≡ k
-    length-front = simp (length-take, length-drop) (omega arith)
-
-    -- a store at place k
-    pub set-shifted : (a d : A) → set (shifted k) k a ≡ take k (drop 1 l) ++ a ∷ drop (suc k) l
-    set-shifted a d =
-        ap (λ r. set (take k (drop 1 l) ++ r) k a) (drop-cons l k d there)
-        ∙ set-at (take k (drop 1 l)) (getD l k d) (drop (suc k) l) a k length-front
-
-  -- a loop's turn: place k gets what stands one place further
-  pub shifted-more : (k : ℕ) (d : A) → k + 1 < length l → set (shifted k) k (getD (shifted k) (k + 1) d) ≡ shifted (k + 1)
-  shifted-more k d there =
-      let further = rw (length-front k (omega arith)) at (getD-append-add (take k (drop 1 l)) (drop k l) 1 d) in
-      let inside : k < length (drop 1 l) = simp length-drop (omega arith) in
-      ap (set (shifted k) k) (further ∙ getD-drop k l 1 d)
-      ∙ set-shifted k (omega arith) (getD l (k + 1) d) d
-      ∙ sym (simp (add-one, one-add, take-suc (drop 1 l) k d inside, getD-drop, append-snoc))
-
--- what stood one place further, of the first places
-pub take-drop-one : {A : Type 0} (k : ℕ) (l : List A) → take k (drop 1 l) ≡ drop 1 (take (k + 1) l)
-take-drop-one k [] = simp (add-one, take-nil)
-take-drop-one k (x ∷ l) = rw add-one
