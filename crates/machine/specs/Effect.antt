@@ -1,6 +1,5 @@
--- Where a call takes effect, and a run watched beside the plain queue. Renders "A call takes effect at .." of "The machine" and "It is
--- told the calls that took effect, in the order of those entries, each put with its task number, and, as the step decides it, whether a
--- put is FULL or a steal ABORT" of "Demand 3's plain queue". The steps are those of `Worker` and `Thief`.
+-- Where a call takes effect, and a run watched beside the plain queue. Renders, of "The machine", the sentence on the steps at which calls
+-- take effect, and of "Demand 3's plain queue" what that queue is told and when. The steps are those of `Worker` and `Thief`.
 use mathlib.Core.Bool.{Bool, true, false, cond, not}
 use mathlib.Core.List.{List, [], _∷_, _++_, map}
 use Prim.Native.Nat.{ℕ}
@@ -65,7 +64,7 @@ effectOf o m WorkerStep = workerEffect o m (m .worker .call)
 effectOf o m (BeginSteal i) = none
 effectOf o m (ThiefStep i) = thiefEffect m (thiefCall m i)
 
--- "entries that get 5, 6 or 7 stand in it like the others, and the plain queue isn't told of them"
+-- an entry that is refused has no effect, so that the plain queue hears nothing of it
 abbrev pub effect : Machine → Entry → Effect
 effect m e = cond (isRefusal (obey m e .outcome)) none (effectOf (obey m e .outcome) m e)
 

@@ -1,5 +1,4 @@
--- When a machine is in range. Renders, of "Parts", "Handed a machine whose sizes, list length, spacing count (0 to 4,096) or indices (−1 to
--- 2,147,483,648, a slot's from 0) are out of range".
+-- When a machine is in range. Renders the list, in "Parts", of what an operation tests before all else.
 use mathlib.Core.Bool.{Bool, true, _&&_}
 use lib.Dec.{leb}
 use Rattle.machine.specs.Types.{Machine, StoreKind, Client, Tail, Slot, ThiefCall, StealLock, StealLoadHead, StealRaiseHead, StealLoadTail, StealLoadSlot, StealUnlockTask, StealRestoreHead, StealUnlockAbort, WorkerCall, PutLoadHead, PutStoreSlot, PutStoreTail, TakeStoreTail, TakeLoadHead, TakeLoadSlot, TakeLock, TakeReloadHead, TakeRestoreTail, TakeUnlockEmpty, TakeUnlockTask, TakeLoadLastSlot}
@@ -40,7 +39,7 @@ thiefInRange (StealUnlockTask x) = true
 thiefInRange (StealRestoreHead h) = indexInRange h
 thiefInRange StealUnlockAbort = true
 
--- "sizes, list length, spacing count (0 to 4,096) or indices": every index that the machine holds
+-- the sizes, how many stores are pending, the spacing count, and every index that the machine holds
 unfoldable pub inRange : Machine → Bool
 inRange m =
     sizesInRange (m .sizes)

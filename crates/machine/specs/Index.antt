@@ -1,4 +1,4 @@
--- Indices of the queue. Renders "Index i lies in slot i mod slots" of "The machine" and the ranges of indices of "Parts".
+-- Indices of the queue. Renders, of "The machine", in which slot an index lies, and, of "Parts", the ranges of indices.
 use mathlib.Core.Bool.{Bool, _&&_}
 use Prim.Native.Nat.{ℕ, _-_, _%_}
 use lib.IntN.{ℤ, pos, negsuc, _+ℤ_, _-ℤ_}
@@ -32,10 +32,10 @@ slotOf n i = modulo (i .at) n
 abbrev pub indexFrom : ℤ → Index → Bool
 indexFrom least i = leZ least (i .at) && leZ (i .at) (pos 2147483648)
 
--- "−1 to 2,147,483,648"
+-- an index that is not only there to reach a slot: from −1
 abbrev pub indexInRange : Index → Bool
 indexInRange i = indexFrom (negsuc 0) i
 
--- "a slot's from 0"
+-- an index that is there to reach a slot: from 0
 abbrev pub slotIndexInRange : Index → Bool
 slotIndexInRange i = indexFrom (pos 0) i

@@ -103,7 +103,7 @@ abbrev pub stepsUp : ℤ → ℕ
 stepsUp (pos n) = n
 stepsUp (negsuc n) = 0
 
--- what the worker would load from the slots of head up to its tail − 1
+-- the worker's loads from the slots between head and its own tail, in that order
 abbrev pub standingInSlots : Machine → List ℕ
 standingInSlots m =
     map (λ k. workerLoad m (record { at = m .head .at +ℤ pos k }))
@@ -114,26 +114,25 @@ standingInSlots m =
 -- Each part of the claim, of the events h of a run and of the watch w at its end. Each prefix of a list is a list, so what is claimed at the
 -- end of every list is claimed at every moment.
 pub record Linearizes (s : Sizes) (h : List Event) (w : Watch) : Type 0 where
-  -- "Each answer, 16 to 21 with its value, equals the plain queue's answer to the same call": of each call that has answered, the plain
-  -- queue's answers to it since it began are that one answer.
+  -- Calls answer as the plain queue does: of each call that has answered, the plain queue's answers to it since it began are that one
+  -- answer, with its value.
   pub answers : map (λ v. answersTo (v .call)) (answering h) ≡ map (λ v. v .outcome ∷ []) (answering h)
-  -- "A call is given the task that left the list at its effect. It holds that task before it has answered, and what it loads from the
-  -- slot is what that task's put stored there": what each running call owes is what the plain queue has answered to it, if anything.
+  -- Between its effect and its answer a call has its task: what each running call owes, which for a task is the number that it would load
+  -- from its slot now or has loaded, is what the plain queue has answered to it, if anything.
   pub held : map (λ p. answersTo (w .calls p)) (parties s) ≡ map (owes (w .machine)) (parties s)
-  -- "What it is told has limits, counted just before the call acts": each was kept.
+  -- Whatever the plain queue was told, it was told within its limits, by the tasks that stood just before.
   pub limits : all (λ v. all (withinLimits (s .slots) (v .queue)) (v .told)) h ≡ true
   -- Each STORED put's task was given to one call, or stands, and not both: it is told apart by its put, and stands once in the account.
   pub once : map (λ k. occurrences k (map (λ t. t .put) (tasksOf s h w))) (upTo (w .queue .stored)) ≡ replicate (w .queue .stored) 1
   -- The machine's account has no other: as many numbers were answered or are owed as tasks were STORED and do not stand.
   pub noOther : length (numbersAnsweredOrOwed s h w) + length (w .queue .tasks) ≡ w .queue .stored
-  -- "Where no call runs, the numbers of the tasks that stand are, oldest first, what the worker would load from the slots of head up to
-  -- its tail − 1."
+  -- While no call runs, the slots from head to below the worker's tail show it the numbers of the standing tasks, oldest first.
   pub standing : noCallRuns s w ≡ true → map (λ t. t .number) (w .queue .tasks) ≡ standingInSlots (w .machine)
 
 abbrev pub Linearizable : Sizes → List Entry → Type 0
 Linearizable s es = Linearizes s (events (watchFresh s) es) (watched (watchFresh s) es)
 
--- "a single claim about a whole list": up to 4,096 entries, from the fresh machine, under sizes in range with enough margin. An operand that
+-- Demand 3, one claim for a whole list: up to 4,096 entries, from the fresh machine, under sizes in range with enough margin. An operand that
 -- is not allowed needs no exception: a thief that is not there gets 7.
 abbrev pub Demand3 : Type 0
 Demand3 =

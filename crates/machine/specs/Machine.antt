@@ -1,5 +1,5 @@
 -- The machine: what it is at first, what the parties load from it, what a step may need, and what
--- an operation hands back. Renders the first paragraph of "The machine" and "It starts from the fresh machine" of "Demand 3's plain queue".
+-- an operation hands back. Renders the first paragraph of "The machine" and, of "Demand 3's plain queue", what the fresh machine is.
 use mathlib.Core.Bool.{Bool, true, false, cond}
 use Prim.Native.Nat.{ℕ}
 use lib.Dec.{ltb, eqb}
@@ -13,7 +13,7 @@ use Rattle.machine.specs.StoreBuffer.{emptyBuffer, newestInSlot, newestT
 abbrev pub idleThief : Thief
 idleThief = record { call = ThiefCall.Idle }
 
--- memory as "The machine" has it, the lock free, nothing pending, no call begun, the spacing count 0
+-- slots of 0, head and tail at start, a free lock, an empty buffer, no call, and no client store counted
 abbrev pub fresh : Sizes → Machine
 fresh s =
     record {
@@ -35,7 +35,7 @@ fresh s =
 abbrev pub workerTail : Machine → Index
 workerTail m = newestTail (m .tail) (m .buffer)
 
--- "Thieves load memory": the tail ..
+-- what memory has for a thief: the tail ..
 abbrev pub thiefTail : Machine → Index
 thiefTail m = m .tail
 

@@ -1,5 +1,5 @@
--- An entry obeyed, and a list of them. Renders "Parts", on what an operation does first, "Within an entry: 5, 6, 7" of "The numbers",
--- and "Each entry gets the machine that the last one handed back" of "Demand 3's plain queue".
+-- An entry obeyed, and a list of them. Renders, of "Parts", what an operation does first, of "The numbers" the order in which one entry is
+-- refused, and of "Demand 3's plain queue" how a list is run.
 use mathlib.Core.Bool.{Bool, true, cond, not, _&&_}
 use mathlib.Core.List.{List, [], _∷_}
 use lib.Dec.{ltb}
@@ -11,7 +11,7 @@ use Rattle.machine.specs.InRange.{inRange}
 use Rattle.machine.specs.Worker.{beginPut, beginTake, makeClientStore, stepOfWorker}
 use Rattle.machine.specs.Thief.{beginSteal, stepOfThief}
 
--- "A drain moves the oldest to memory, a client store to nowhere"; 7 WAIT for a drain of nothing
+-- the oldest pending store reaches its place in memory, if it has one; 7 WAIT where nothing is pending
 abbrev pub drain : Machine → Done
 drain m =
     needing (not (nothingPending m)) m
@@ -42,11 +42,11 @@ thiefIsThere s WorkerStep = true
 thiefIsThere s (BeginSteal i) = ltb i (s .thieves)
 thiefIsThere s (ThiefStep i) = ltb i (s .thieves)
 
--- 7 for a machine out of range or a thief that is not there, before 5 and 6 are looked at
+-- 7 comes first for a machine out of range or a thief that is not there; only otherwise is the entry looked at
 abbrev pub obey : Machine → Entry → Done
 obey m e = cond (inRange m && thiefIsThere (m .sizes) e) (obeyInRange m e) (done Wait m)
 
--- ── A list of entries, each on the machine that the last one handed back ────────────────────────────────────────────────────
+-- ── A list of entries, each on the machine left by the one before it ────────────────────────────────────────────────────
 
 abbrev pub machineAfter : Machine → List Entry → Machine
 machineAfter m [] = m

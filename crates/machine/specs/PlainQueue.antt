@@ -1,5 +1,5 @@
--- The plain two-ended queue that every answer is compared with. Renders "Demand 3's plain queue", from "has a list of tasks" to "only
--- where a task stands". It knows nothing of the machine.
+-- The plain two-ended queue that every answer is compared with. Renders the first paragraph
+-- of "Demand 3's plain queue". It knows nothing of the machine.
 use mathlib.Core.Bool.{Bool, true, false, cond, _||_}
 use mathlib.Core.List.{List, [], _∷_, _++_}
 use Prim.Native.Nat.{ℕ, _+_, _-_}
@@ -7,8 +7,7 @@ use lib.Dec.{leb, ltb, eqb}
 use lib.ListN.{length, take, drop}
 use Rattle.machine.specs.Types.{Outcome, Stored, Task, Empty, Abort, Full, End}
 
--- A task with the put that it came from, counted from 0 among the puts that were STORED: "Tasks are told apart by their put, so equal
--- numbers are different tasks".
+-- A task with the put that it came from, counted from 0 among the puts that were STORED. Two tasks of one number differ in their put.
 pub record StoredTask : Type 0 where
   pub put : ℕ
   pub number : ℕ
@@ -16,7 +15,7 @@ pub record StoredTask : Type 0 where
 pub record PlainQueue : Type 0 where
   -- the tasks that stand, oldest first
   pub tasks : List StoredTask
-  -- start + stored − taken by the worker
+  -- start at first; it counts up with each put that joins and down with each take that gives a task
   pub sum : ℕ
   -- how many puts were STORED
   pub stored : ℕ
@@ -24,7 +23,7 @@ pub record PlainQueue : Type 0 where
 abbrev pub emptyQueue : ℕ → PlainQueue
 emptyQueue start = record { tasks = []; sum = start; stored = 0 }
 
--- What the queue is told: a call, with the put's number and whether a put is FULL or a steal ABORT.
+-- What the queue is told: a call; with a put its number, and with a put and a steal whether the step has decided against it.
 pub data Told : Type 0 where
   toldPut : ℕ → Bool → Told
   toldTake : Told
@@ -40,7 +39,7 @@ pub record Reply : Type 0 where
 abbrev pub unchanged : PlainQueue → Outcome → Reply
 unchanged q o = record { queue = q; answer = o; given = [] }
 
--- the task joins as the newest and the sum grows by 1
+-- one task more, behind the others, and one more in the sum
 abbrev pub joined : ℕ → PlainQueue → Reply
 joined x q =
     record {
@@ -61,7 +60,7 @@ newest l = drop (length l - 1) l
 abbrev pub withoutNewest : List StoredTask → List StoredTask
 withoutNewest l = take (length l - 1) l
 
--- END exactly when the sum is 2,147,483,647; EMPTY exactly when no task stands. A steal that is not told ABORT while no task stands breaks
+-- The queue itself knows END, by its sum, and EMPTY, by its list; FULL and ABORT it is told. A steal that is not told ABORT while no task stands breaks
 -- a limit below; the queue answers it ABORT all the same.
 abbrev pub respond : PlainQueue → Told → Reply
 respond q (toldPut x full) = cond (eqb (q .sum) 2147483647) (unchanged q End) (cond full (unchanged q Full) (joined x q))
@@ -69,8 +68,8 @@ respond q toldTake = leaves (newest (q .tasks)) (record { tasks = withoutNewest 
 respond q (toldSteal true) = unchanged q Abort
 respond q (toldSteal false) = leaves (take 1 (q .tasks)) (record { tasks = drop 1 (q .tasks); sum = q .sum; stored = q .stored }) q Abort
 
--- The limits on what it is told, with n slots, counted just before the call acts: FULL only with n − 1 or more tasks standing, STORED
--- only with fewer than n, a steal without ABORT only where a task stands.
+-- What it may be told, with n slots and by the tasks that stand at that moment: FULL where at most one more would fit, a put to be STORED
+-- where there is a slot for it, a steal that gives a task where there is one.
 abbrev pub withinLimits : ℕ → PlainQueue → Told → Bool
 withinLimits n q (toldPut x true) = leb (n - 1) (length (q .tasks))
 withinLimits n q (toldPut x false) = eqb (q .sum) 2147483647 || ltb (length (q .tasks)) n

@@ -181,21 +181,21 @@ m9 =
     ++ workerGets Wait ++ thiefMoves 2 ++ thiefGets Abort
     ++ workerMoves 3 ++ workerGets (Task 7)
 
--- "The program's lines"
+-- the example under "The program's lines"
 abbrev pub exampleLines : List Line
 exampleLines = does (BeginPut 7) Moved ∷ workerMoves 2 ++ does WorkerStep Wait ∷ drains 1 ++ workerGets Stored
 
--- "Rounding the needed margin down: buffer 33, spacing 1 gives 16": 17 takes are pending at once, with a client store between each two
+-- "Broken thread", the margin rounded down: 17 takes are pending at once, with a client store between each two, and 16 is one short
 abbrev pub seventeenTakesThenSteal : Outcome → List Line
 seventeenTakesThenSteal o = filled 17 ++ takes 17 ++ gather (λ k. clientStores 1 ++ takes (17 - k)) (upFrom 1 16) ++ steals o
 
--- "FULL only at all slots": a thief has stolen task 1 and not yet loaded its slot, which one more put would overwrite
+-- "Broken thread", FULL one task too late: a thief has stolen task 1 and not yet loaded its slot, which one more put would overwrite
 abbrev pub slotAboutToBeLoaded : List Line
 slotAboutToBeLoaded =
     puts 1 ++ drains 2 ++ does (BeginSteal 0) Moved ∷ thiefMoves 3 ++ puts 2 ++ drains 2
     ++ thiefMoves 1 ++ putEnds 3 Full ++ thiefMoves 1 ++ thiefGets (Task 1)
 
--- "A thief that sees pending stores": the tasks are there for it only once they have drained
+-- "Broken thread", what a thief sees: the tasks are there for it only once they have drained
 abbrev pub thiefSeesMemory : List Line
 thiefSeesMemory = puts 1 ++ puts 2 ++ tailIs (pos 0) ∷ steals Abort ++ drains 4 ++ tailIs (pos 2) ∷ steals (Task 1)
 
@@ -203,15 +203,15 @@ thiefSeesMemory = puts 1 ++ puts 2 ++ tailIs (pos 0) ∷ steals Abort ++ drains 
 abbrev pub thiefLoadsMemory : List Line
 thiefLoadsMemory = filled 2 ++ takes 2 ++ takes 1 ++ puts 9 ++ steals (Task 1)
 
--- "a worker that loads its tail from memory": its own puts count before they have drained
+-- "Broken thread", what the worker sees: its own puts count before they have drained
 abbrev pub workerSeesPending : List Line
 workerSeesPending = puts 1 ++ puts 2 ++ tailIs (pos 0) ∷ takes 2 ++ takes 1 ++ tailIs (pos 0) ∷ []
 
--- "testing T − margin ≥ h": a tail just at the margin is not enough
+-- "Broken thread", the steal's test: a tail just at the margin is not enough
 abbrev pub tailAtMargin : List Line
 tailAtMargin = filled 1 ++ steals Abort ++ puts 2 ++ drains 2 ++ steals (Task 1)
 
--- "An unsigned tail", besides M6's tail of −1: the differences are negative, since a thief has raised head over an empty queue
+-- "Broken thread", signs, besides M6's tail of −1: the differences are negative, since a thief has raised head over an empty queue
 abbrev pub headAheadOfTail : List Line
 headAheadOfTail = does (BeginSteal 0) Moved ∷ thiefMoves 3 ++ headIs (pos 1) ∷ puts 1 ++ thiefMoves 2 ++ thiefGets Abort ++ drains 2 ++ takes 1
 

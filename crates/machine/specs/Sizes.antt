@@ -26,7 +26,7 @@ abbrev pub firstFault : ℕ → List Bool → SizeCheck
 firstFault place [] = AllInRange
 firstFault place (kept ∷ l) = cond kept (firstFault (place + 1) l) (OutOfRange place)
 
--- "The numbers", 1 SIZE: a size outside its range, with its place, lowest place first
+-- which size is refused, if one is: of those out of range, the one with the lowest place
 abbrev pub checkSizes : Sizes → SizeCheck
 checkSizes s = firstFault 0 (rangesKept s)
 
@@ -38,7 +38,7 @@ noFault (OutOfRange place) = false
 abbrev pub sizesInRange : Sizes → Bool
 sizesInRange s = noFault (checkSizes s)
 
--- "0 stands for the buffer size", for the margin only
+-- a margin of 0 is the buffer size; no other size has such a meaning
 abbrev pub marginInUse : Sizes → ℕ
 marginInUse s = cond (eqb (s .margin) 0) (s .buffer) (s .margin)
 
@@ -50,6 +50,6 @@ divideUp n d = (n + (d - 1)) / d
 abbrev pub neededMargin : ℕ → ℕ → ℕ
 neededMargin buffer spacing = divideUp buffer (spacing + 1)
 
--- "The program's lines": the margin in use is at least the needed one
+-- what the program calls enough: a margin in use that is not below the needed one
 abbrev pub enoughMargin : Sizes → Bool
 enoughMargin s = leb (neededMargin (s .buffer) (s .spacing)) (marginInUse s)

@@ -1,6 +1,5 @@
--- The store buffer. Renders, of "The machine", the sentences from "The worker has a first-in, first-out list of pending stores" to
--- "The worker loads the newest pending value of a place, or memory if none is pending". (How many may be pending: `hasRoom` in `Machine`.)
--- It knows nothing of the queue's calls.
+-- The store buffer. Renders, of the first paragraph of "The machine", the worker's pending stores, their drain and what the worker loads.
+-- (How many may be pending: `hasRoom` in `Machine`.) It knows nothing of the queue's calls.
 use mathlib.Core.Bool.{cond}
 use mathlib.Core.List.{List, _∷_, _++_, foldl}
 use Prim.Native.Nat.{ℕ, _+_, _-_}
@@ -41,7 +40,7 @@ dropOldest b =
       count = b .count - 1;
     }
 
--- "A drain moves the oldest to memory, a client store to nowhere": what a store leaves in memory, at the tail and in the n slots.
+-- What a store leaves in memory once it is drained, at the tail and in the n slots. A client store leaves nothing.
 
 abbrev pub tailAfter : Index → StoreKind → Index
 tailAfter t Client = t
@@ -53,7 +52,7 @@ slotsAfter n slots Client = slots
 slotsAfter n slots (Tail u) = slots
 slotsAfter n slots (Slot i x) = set slots (slotOf n i) x
 
--- "The worker loads the newest pending value of a place, or memory if none is pending": from memory's value on, oldest first, each
+-- What the worker loads from a place while stores are pending: from memory's value on, oldest first, each
 -- pending store to that place supersedes what was found so far. The place of a slot store is its slot, whichever index led there.
 
 abbrev pub newestTail : Index → StoreBuffer → Index

@@ -22,15 +22,15 @@ thiefAnswers i o m = done o (withThief i ThiefCall.Idle m)
 
 -- ── Steal ───────────────────────────────────────────────────────────────────────────────────────────────────────────────────
 
--- (1) lock
+-- step 1: take the lock
 abbrev pub stealLock : ℕ → Machine → Done
 stealLock i m = needing (lockIsFree m) m (thiefGoesOn i StealLoadHead (withLock (TheThief i) m))
 
--- (2) load head h
+-- step 2: h is what head holds
 abbrev pub stealLoadHead : ℕ → Machine → Done
 stealLoadHead i m = thiefGoesOn i (StealRaiseHead (m .head)) m
 
--- (3) head becomes h + 1
+-- step 3: raise head above h
 abbrev pub stealRaiseHead : ℕ → Index → Machine → Done
 stealRaiseHead i h m = thiefGoesOn i (StealLoadTail h) (withHead (next h) m)
 
@@ -38,19 +38,19 @@ stealRaiseHead i h m = thiefGoesOn i (StealLoadTail h) (withHead (next h) m)
 abbrev pub marginKept : Index → Machine → Bool
 marginKept h m = ltZ (h .at) (thiefTail m .at -ℤ pos (marginInUse (m .sizes)))
 
--- (4) load tail T: where T − margin > h the slot is next, else head is put back
+-- step 4: look at the tail; with the margin kept the slot is next, else head is put back
 abbrev pub stealLoadTail : ℕ → Index → Machine → Done
 stealLoadTail i h m = cond (marginKept h m) (thiefGoesOn i (StealLoadSlot h) m) (thiefGoesOn i (StealRestoreHead h) m)
 
--- (5) load the slot of h
+-- step 5 with the margin kept: load from the slot of h
 abbrev pub stealLoadSlot : ℕ → Index → Machine → Done
 stealLoadSlot i h m = thiefGoesOn i (StealUnlockTask (memoryLoad m h)) m
 
--- (5) head becomes h, where the margin is not kept
+-- step 5 with the margin not kept: put head back
 abbrev pub stealRestoreHead : ℕ → Index → Machine → Done
 stealRestoreHead i h m = thiefGoesOn i StealUnlockAbort (withHead h m)
 
--- (6) unlock, TASK or ABORT
+-- step 6: free the lock and answer
 abbrev pub stealUnlock : ℕ → Outcome → Machine → Done
 stealUnlock i o m = thiefAnswers i o (withLock Nobody m)
 

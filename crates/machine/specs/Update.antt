@@ -19,7 +19,7 @@ withBuffer b m = record { sizes = m .sizes; slots = m .slots; head = m .head; ta
 abbrev pub withMemory : List ℕ → Index → StoreBuffer → Machine → Machine
 withMemory l t b m = record { sizes = m .sizes; slots = l; head = m .head; tail = t; lock = m .lock; buffer = b; since = m .since; taken = m .taken; worker = m .worker; thieves = m .thieves }
 
--- the spacing count, and whether a take has begun
+-- the two parts that the spacing rule looks at
 abbrev pub withSpacing : ℕ → Bool → Machine → Machine
 withSpacing n b m = record { sizes = m .sizes; slots = m .slots; head = m .head; tail = m .tail; lock = m .lock; buffer = m .buffer; since = n; taken = b; worker = m .worker; thieves = m .thieves }
 

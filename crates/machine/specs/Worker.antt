@@ -31,21 +31,21 @@ atEnd m = eqZ (workerTail m .at) (pos 2147483647)
 abbrev pub isFull : Machine → Bool
 isFull m = leZ (pos (m .sizes .slots) -ℤ pos 1) (workerTail m .at -ℤ m .head .at)
 
--- (1) load head: END, else FULL, else go on
+-- step 1: look at head, and end there if the tail or the slots leave no room
 abbrev pub putLoadHead : ℕ → Machine → Done
 putLoadHead x m = cond (atEnd m) (workerAnswers End m) (cond (isFull m) (workerAnswers Full m) (workerGoesOn (PutStoreSlot x) m))
 
--- (2) slot store at the tail's index
+-- step 2: store the number in the slot that the tail points to
 abbrev pub putStoreSlot : ℕ → Machine → Done
 putStoreSlot x m = needing (hasRoom m) m (workerGoesOn PutStoreTail (pushed (slotStore (workerTail m) x) m))
 
--- (3) store tail + 1, STORED
+-- step 3: store the tail, one higher, and answer
 abbrev pub putStoreTail : Machine → Done
 putStoreTail m = needing (hasRoom m) m (workerAnswers Stored (pushed (tailStore (next (workerTail m))) m))
 
 -- ── Take ────────────────────────────────────────────────────────────────────────────────────────────────────────────────────
 
--- (1) store t = tail − 1
+-- step 1: store the tail, one lower; t is that index from here on
 abbrev pub takeStoreTail : Machine → Done
 takeStoreTail m = needing (hasRoom m) m (workerGoesOn (TakeLoadHead (previous (workerTail m))) (pushed (tailStore (previous (workerTail m))) m))
 
@@ -53,15 +53,15 @@ takeStoreTail m = needing (hasRoom m) m (workerGoesOn (TakeLoadHead (previous (w
 abbrev pub atOrAboveHead : Index → Machine → Bool
 atOrAboveHead t m = leZ (m .head .at) (t .at)
 
--- (2) load head h: where t ≥ h the slot is next, else the lock
+-- step 2: look at head; if it is not above t the slot is next, else the lock
 abbrev pub takeLoadHead : Index → Machine → Done
 takeLoadHead t m = cond (atOrAboveHead t m) (workerGoesOn (TakeLoadSlot t) m) (workerGoesOn (TakeLock t) m)
 
--- (3), and (6) after the lock: load the slot of t, TASK
+-- step 3 without the lock, and step 6 after it: load from the slot of t and answer
 abbrev pub takeLoadSlot : Index → Machine → Done
 takeLoadSlot t m = workerAnswers (Task (workerLoad m t)) m
 
--- (3) lock, where t < h
+-- step 3 where head is above t: take the lock, with nothing pending
 abbrev pub takeLock : Index → Machine → Done
 takeLock t m = needing (lockIsFree m && nothingPending m) m (workerGoesOn (TakeReloadHead t) (withLock TheWorker m))
 
@@ -69,19 +69,19 @@ takeLock t m = needing (lockIsFree m && nothingPending m) m (workerGoesOn (TakeR
 abbrev pub headIsPast : Index → Machine → Bool
 headIsPast t m = leZ (t .at +ℤ pos 1) (m .head .at)
 
--- (4) load head again: where head ≥ t + 1 the old tail is stored next, else comes the unlock
+-- step 4: look at head again; if it is still above t the tail is put back next, else the lock is freed
 abbrev pub takeReloadHead : Index → Machine → Done
 takeReloadHead t m = cond (headIsPast t m) (workerGoesOn (TakeRestoreTail t) m) (workerGoesOn (TakeUnlockTask t) m)
 
--- (5) store tail t + 1
+-- step 5 where head is above t: put the tail back
 abbrev pub takeRestoreTail : Index → Machine → Done
 takeRestoreTail t m = needing (hasRoom m) m (workerGoesOn TakeUnlockEmpty (pushed (tailStore (next t)) m))
 
--- (6) unlock, EMPTY
+-- step 6 where head is above t: free the lock and answer
 abbrev pub takeUnlockEmpty : Machine → Done
 takeUnlockEmpty m = needing (nothingPending m) m (workerAnswers Empty (withLock Nobody m))
 
--- (5) unlock, where the task is there
+-- step 5 where head is not above t: free the lock
 abbrev pub takeUnlockTask : Index → Machine → Done
 takeUnlockTask t m = needing (nothingPending m) m (workerGoesOn (TakeLoadLastSlot t) (withLock Nobody m))
 
@@ -107,7 +107,7 @@ workerRuns (TakeLoadLastSlot t) = true
 abbrev pub unlessWorkerRuns : Machine → Done → Done
 unlessWorkerRuns m d = cond (workerRuns (m .worker .call)) (done Place m) d
 
--- the spacing count after one more client store: "the count is 0 until then", until the first take has begun
+-- the spacing count after one more client store, which counts only once a take has begun
 abbrev pub countedStore : Machine → Machine
 countedStore m = withSpacing (cond (m .taken) (m .since + 1) 0) (m .taken) m
 

@@ -1,5 +1,5 @@
-// The seven kinds of entry that a schedule is made of. Beginning a call touches no memory; each later entry of the call
-// is one step of it.
+// The seven kinds of entry that a schedule is made of. A call is begun by one entry, which leaves memory alone, and then
+// makes its steps, one to an entry.
 pub enum Entry {
     // The oldest pending store reaches memory.
     Drain,

@@ -22,11 +22,11 @@ pub struct Lock {
     pub holder: Holder,
 }
 
-// The whole state of a rehearsal. It goes into an operation by value and comes back by value.
+// The whole state of a rehearsal. An operation takes it and hands the next one back.
 pub struct Machine {
     // The sizes that it was made with; nothing changes them.
     pub sizes: Sizes,
-    // Memory: the slots, of which the first `sizes.slots` are in use. Index i lies in slot i mod slots.
+    // Memory: the slots, of which the first `sizes.slots` are in use. An index lies in the slot that is its remainder.
     pub slots: [u32; 256],
     // Memory: the index of the oldest task. A thief raises it before it knows whether it steals, and may put it back.
     pub head: Index,

@@ -65,6 +65,6 @@ sum-grows q (c ∷ cs) covered =
     let b = respond-balances q covered c in
     omega (arith, sum-grows (respond q c .queue) cs (b .covers))
 
--- "So the sum is start + stored − taken by the worker."
+-- what the sum counts: from start, up by each put that was STORED and down by each task that the worker took
 pub sum-counts : (start : ℕ) (cs : List Told) → after (emptyQueue start) cs .sum + takenIn (emptyQueue start) cs ≡ start + after (emptyQueue start) cs .stored
 sum-counts start cs = omega (arith, sum-grows (emptyQueue start) cs zero-le)

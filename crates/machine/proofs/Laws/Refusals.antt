@@ -1,4 +1,4 @@
--- "machine unchanged": an entry that gets 5, 6 or 7 leaves the machine as it is, whatever the machine.
+-- Refusals, 5 to 7, leave the machine as it is, whatever the machine.
 use mathlib.Core.Path.{_≡_, refl}
 use mathlib.Core.Bool.{true, false, not, _&&_, false≢true}
 use Prim.Native.Nat.{ℕ}
