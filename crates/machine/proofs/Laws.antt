@@ -6,3 +6,4 @@ pub mod Refusals
 pub mod PlainQueue
 pub mod Index
 pub mod Chain
+pub mod Loads

@@ -1,5 +1,12 @@
 -- What is proved of the claim of demand 3: it speaks of the list obeyed entry by entry; and by computation, the run of M2, whose margin is
 -- one short of the needed one, violates it, and that of M3 satisfies it.
+pub mod Invariant
+pub mod Tasks
+pub mod Turn
+pub mod Worker
+pub mod Drain
+pub mod Thief
+pub mod Run
 use mathlib.Core.Path.{_≡_, refl, ap}
 use mathlib.Core.List.{List, [], _∷_, map}
 use Prim.Native.Nat.{ℕ}

@@ -3,7 +3,7 @@
 use mathlib.Core.Path.{_≡_, refl, ap, sym, _∙_}
 use mathlib.Core.Bool.{Bool, true, false, cond, not, _&&_}
 use Prim.Native.Nat.{ℕ, zero, suc, _+_, _-_, _*_, _/_, _%_, _≤_, _<_, zero-le}
-use native.Mathlib.Nat.{div-add-mod, mul-le-mul-left, mul-suc}
+use native.Mathlib.Nat.{div-add-mod, mod-lt, mul-le-mul-left, mul-suc}
 use native.Mathlib.Omega.{arith}
 use lib.Dec.{eqb, leb, ltb}
 use lib.IntN.{ℤ, pos, negsuc, subℕ, _+ℤ_, _-ℤ_, +ℤ-idr}
@@ -83,14 +83,29 @@ ltZ-not (negsuc a) (negsuc b) = ltb-not b a
 abbrev pub idx : ℕ → Index
 idx k = record { at = subℕ k 1 }
 
+-- an index under another name of its number
+pub idx-as : {i : Index} (a b : ℕ) → i ≡ idx a → a ≡ b → i ≡ idx b
+idx-as a b here same = here ∙ ap idx same
+
 pub idx-next : (k : ℕ) → next (idx k) ≡ idx (k + 1)
 idx-next k = ap (λ z. record { at = z }) (subℕ-plus k 1 1)
 
-pub idx-previous : (k : ℕ) → previous (idx (k + 1)) ≡ idx k
-idx-previous k = ap (λ z. record { at = z }) (subℕ-minus (k + 1) 1 1 ∙ subℕ-same (k + 1) 2 k 1 (omega arith))
+pub idx-previous : (k : ℕ) → 1 ≤ k → previous (idx k) ≡ idx (k - 1)
+idx-previous k some = ap (λ z. record { at = z }) (subℕ-minus k 1 1 ∙ subℕ-same k 2 (k - 1) 1 (omega arith))
+
+pub idx-plus : (k d : ℕ) → _≡_ {A = Index} (record { at = idx k .at +ℤ pos d }) (idx (k + d))
+idx-plus k d = ap (λ z. record { at = z }) (subℕ-plus k 1 d)
+
+-- how far an index is above one that is not below 0
+pub idx-minus : (a b : ℕ) → 1 ≤ b → b ≤ a → idx a .at -ℤ idx b .at ≡ pos (a - b)
+idx-minus a b some above =
+    rw (subℕ-pos b 1 some) (subℕ-minus a 1 (b - 1) ∙ subℕ-pos a (1 + (b - 1)) (omega arith) ∙ ap pos (omega arith))
 
 pub idx-le : (a b : ℕ) → leZ (idx a .at) (idx b .at) ≡ leb a b
 idx-le a b = subℕ-le a 1 b 1 ∙ leb-iff (a + 1) (b + 1) a b (λ h. omega arith) (λ h. omega arith)
+
+pub idx-lt : (a b : ℕ) → ltZ (idx a .at) (idx b .at) ≡ ltb a b
+idx-lt a b = ltZ-not (idx a .at) (idx b .at) ∙ ap not (idx-le b a) ∙ sym (ltb-not a b)
 
 pub idx-eq : (a b : ℕ) → eqZ (idx a .at) (idx b .at) ≡ eqb a b
 idx-eq a b = rw (idx-le a b, idx-le b a) (go (leb a b) (leb b a) (eqb a b) refl refl refl)
@@ -110,14 +125,17 @@ idx-margin h t d =
     (ap not (leb-iff (t + 1) (h + (1 + d)) t (h + d) (λ h. omega arith) (λ h. omega arith)) ∙ sym (ltb-not (h + d) t))
 
 -- tail − head ≥ slots − 1, for a head that is not below 0
-pub idx-full : (n t h : ℕ) → leZ (pos n -ℤ pos 1) (idx t .at -ℤ idx (h + 1) .at) ≡ leb (n + h) t
-idx-full n t h =
-    rw (subℕ-pos (h + 1) 1 (omega arith), subℕ-minus t 1 (h + 1 - 1), subℕ-le n 1 t (1 + (h + 1 - 1)))
-    (leb-iff (n + (1 + (h + 1 - 1))) (t + 1) (n + h) t (λ h. omega arith) (λ h. omega arith))
+pub idx-full : (n t h : ℕ) → 1 ≤ h → leZ (pos n -ℤ pos 1) (idx t .at -ℤ idx h .at) ≡ leb (n + h) (t + 1)
+idx-full n t h some =
+    rw (subℕ-pos h 1 some, subℕ-minus t 1 (h - 1), subℕ-le n 1 t (1 + (h - 1)))
+    (leb-iff (n + (1 + (h - 1))) (t + 1) (n + h) (t + 1) (λ h. omega arith) (λ h. omega arith))
 
 -- the slot of an index that is not below 0
-pub idx-slot : (n k : ℕ) → slotOf n (idx (k + 1)) ≡ k % n
-idx-slot n k = rw (subℕ-pos (k + 1) 1 (omega arith)) (ap (λ j. j % n) (omega arith))
+pub idx-slot : (n k : ℕ) → 1 ≤ k → slotOf n (idx k) ≡ (k - 1) % n
+idx-slot n k some = rw (subℕ-pos k 1 some)
+
+pub idx-slot-below : (n k : ℕ) → 1 ≤ n → 1 ≤ k → slotOf n (idx k) < n
+idx-slot-below n k slots some = rw (idx-slot n k some) (mod-lt (k - 1) slots)
 
 pub idx-in-range : (k : ℕ) → indexInRange (idx k) ≡ leb k 2147483649
 idx-in-range k = rw (idx-le 0 k, le-leb 0 k zero-le) (idx-le k 2147483649)
@@ -141,3 +159,11 @@ slots-apart n lo i j a b c d same = go (ltb (i / n) (j / n)) (ltb (j / n) (i / n
     go false false e f =
         let q : i / n ≡ j / n = omega (arith, ltb-false (i / n) (j / n) e, ltb-false (j / n) (i / n) f) in
         sym (div-add-mod i n) ∙ (λ k. n * q k + same k) ∙ div-add-mod j n
+
+-- .. as indices, from 0 up
+pub idx-slots-apart :
+    (n lo i j : ℕ) → 1 ≤ lo → lo ≤ i → i < lo + n → lo ≤ j → j < lo + n → slotOf n (idx i) ≡ slotOf n (idx j) → i ≡ j
+idx-slots-apart n lo i j some a b c d same =
+    let e = slots-apart n (lo - 1) (i - 1) (j - 1) (omega arith) (omega arith) (omega arith) (omega arith)
+            (sym (idx-slot n i (omega arith)) ∙ same ∙ idx-slot n j (omega arith)) in
+    omega arith

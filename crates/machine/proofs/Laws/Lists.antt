@@ -20,7 +20,7 @@ use Rattle.machine.specs.Lists.{all}
 &&-true false = refl
 
 module _ {A : Type 0} (f : A → Bool) where
-  all-snoc : (l : List A) (x : A) → all f (l ++ (x ∷ [])) ≡ (all f l && f x)
+  pub all-snoc : (l : List A) (x : A) → all f (l ++ (x ∷ [])) ≡ (all f l && f x)
   all-snoc [] x = &&-true (f x)
   all-snoc (y ∷ l) x = ap (λ b. f y && b) (all-snoc l x) ∙ &&-assoc (f y) (all f l) (f x)
 

@@ -5,7 +5,7 @@ use mathlib.Core.List.{List, [], _∷_, _++_, foldl, foldl-append}
 use Prim.Native.Nat.{ℕ, _-_, _≤_, _<_}
 use native.Mathlib.Numerals.{add-one}
 use native.Mathlib.Omega.{arith}
-use lib.ListN.{length, getD, drop, length-drop, length-take}
+use lib.ListN.{length, getD, drop, length-drop, length-set, length-take}
 use lib.Seq.{take-at, take-suc-set}
 use Rattle.machine.specs.Types.{Index, Store, StoreBuffer, StoreKind, Client, Tail, Slot}
 use Rattle.machine.specs.Index.{slotOf}
@@ -48,6 +48,12 @@ push-newestTail t s b room = push-foldl (λ u s. tailAfter u (s .kind)) t s b ro
 
 pub push-newestInSlot : (n k v : ℕ) (s : Store) (b : StoreBuffer) → b .count < length (b .stores) → newestInSlot n k v (push s b) ≡ slotAfter n k (newestInSlot n k v b) (s .kind)
 push-newestInSlot n k v s b room = push-foldl (λ u s. slotAfter n k u (s .kind)) v s b room
+
+-- a store that reaches memory leaves it as long as it was
+pub slotsAfter-length : (n : ℕ) (slots : List ℕ) (s : StoreKind) → length (slotsAfter n slots s) ≡ length slots
+slotsAfter-length n slots Client = refl
+slotsAfter-length n slots (Tail u) = refl
+slotsAfter-length n slots (Slot i x) = length-set slots (slotOf n i) x
 
 -- what memory's slot k holds once a store has reached it
 pub slotsAfter-slotAfter : (n k : ℕ) (slots : List ℕ) (s : StoreKind) → k < length slots → getD (slotsAfter n slots s) k 0 ≡ slotAfter n k (getD slots k 0) s

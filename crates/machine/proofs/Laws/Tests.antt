@@ -1,6 +1,6 @@
 -- Laws of tests: what a call's answer, once tested, says of the definition that it ensures; and what a function makes of a choice.
-use mathlib.Core.Path.{_≡_, sym, _∙_}
-use mathlib.Core.Bool.{Bool, true, false, cond}
+use mathlib.Core.Path.{_≡_, refl, sym, _∙_}
+use mathlib.Core.Bool.{Bool, true, false, cond, _&&_, false≢true}
 
 -- a call answered x, which is y by its contract, and the test found x to be b: so y is b
 pub known : {A : Type 0} {x y b : A} → x ≡ y → x ≡ b → y ≡ b
@@ -15,3 +15,17 @@ cond-map h false p q = q
 pub either : {A : Type 0} (P : A → Type 0) (t : Bool) {x y : A} → P x → P y → P (cond t x y)
 either P true p q = p
 either P false p q = q
+
+-- .. and what holds of each branch where the test leads to it
+pub decide : {A : Type 0} (P : A → Type 0) (t : Bool) {x y : A} → (t ≡ true → P x) → (t ≡ false → P y) → P (cond t x y)
+decide P true p q = p refl
+decide P false p q = q refl
+
+-- of two tests that both passed, each did
+pub both-left : (a b : Bool) → (a && b) ≡ true → a ≡ true
+both-left true b p = refl
+both-left false b p = p
+
+pub both-right : (a b : Bool) → (a && b) ≡ true → b ≡ true
+both-right true b p = p
+both-right false b p = absurd (false≢true p)
