@@ -1,8 +1,10 @@
 pub mod Lists
 pub mod Sizes
 pub mod Tests
+pub mod Sums
 pub mod StoreBuffer
 pub mod Refusals
+pub mod Obey
 pub mod PlainQueue
 pub mod Index
 pub mod Chain

@@ -1,4 +1,5 @@
 pub mod Laws
 pub mod Rehearsals
 pub mod Linearizable
+pub mod Account
 pub mod Renumbering

@@ -1,6 +1,9 @@
 -- Laws of tests: what a call's answer, once tested, says of the definition that it ensures; and what a function makes of a choice.
 use mathlib.Core.Path.{_≡_, refl, sym, _∙_}
 use mathlib.Core.Bool.{Bool, true, false, cond, _&&_, false≢true}
+use Prim.Native.Nat.{ℕ}
+use lib.Dec.{eqb}
+use borrow.Author.Tests.{eq-eqb, eqb-false, eqb-true, ne-eqb}
 
 -- a call answered x, which is y by its contract, and the test found x to be b: so y is b
 pub known : {A : Type 0} {x y b : A} → x ≡ y → x ≡ b → y ≡ b
@@ -29,3 +32,10 @@ both-left false b p = p
 pub both-right : (a b : Bool) → (a && b) ≡ true → b ≡ true
 both-right true b p = p
 both-right false b p = absurd (false≢true p)
+
+pub eqb-comm : (j k : ℕ) → eqb j k ≡ eqb k j
+eqb-comm j k = go (eqb k j) refl
+  where
+    go : (same : Bool) → eqb k j ≡ same → eqb j k ≡ same
+    go true e = eq-eqb j k (sym (eqb-true k j e))
+    go false e = ne-eqb j k (λ p. eqb-false k j e (sym p))
