@@ -7,6 +7,7 @@ pub mod Worker
 pub mod Drain
 pub mod Thief
 pub mod Run
+pub mod Theorem
 use mathlib.Core.Path.{_≡_, refl, ap}
 use mathlib.Core.List.{List, [], _∷_, map}
 use Prim.Native.Nat.{ℕ}

@@ -10,7 +10,7 @@ use lib.IntN.{ℤ, pos, negsuc, subℕ, _+ℤ_, _-ℤ_, +ℤ-idr}
 use lib.Signed.{leZ, ltZ}
 use borrow.Author.Tests.{eqb-false, eqb-true, le-leb, le-ltb, leb-false, leb-true, lt-leb, lt-ltb, ltb-false, ltb-true}
 use Rattle.machine.specs.Types.{Index}
-use Rattle.machine.specs.Index.{eqZ, indexInRange, next, previous, slotIndexInRange, slotOf}
+use Rattle.machine.specs.Index.{eqZ, indexInRange, indexOf, next, previous, slotIndexInRange, slotOf}
 
 -- two tests of an order agree where the orders do
 leb-iff : (a b c d : ℕ) → (a ≤ b → c ≤ d) → (c ≤ d → a ≤ b) → leb a b ≡ leb c d
@@ -82,6 +82,9 @@ ltZ-not (negsuc a) (negsuc b) = ltb-not b a
 -- the index one below k, and so every index from −1 up
 abbrev pub idx : ℕ → Index
 idx k = record { at = subℕ k 1 }
+
+pub idx-of : (k : ℕ) → indexOf k ≡ idx (k + 1)
+idx-of k = ap (λ z. record { at = z }) (sym (subℕ-pos (k + 1) 1 (omega arith) ∙ ap pos (omega arith)))
 
 -- an index under another name of its number
 pub idx-as : {i : Index} (a b : ℕ) → i ≡ idx a → a ≡ b → i ≡ idx b

@@ -3,13 +3,15 @@ use mathlib.Core.Path.{_≡_, refl, ap, sym, _∙_}
 use mathlib.Core.Bool.{Bool, true, false, cond, _&&_}
 use mathlib.Core.List.{List, [], _∷_, _++_, foldl, map}
 use Prim.Native.Nat.{ℕ, zero, suc, _+_, _≤_, _<_}
-use native.Mathlib.Nat.{not-suc-le-zero}
+use native.Mathlib.Nat.{le-of-suc-le-suc, not-suc-le-zero}
 use native.Mathlib.Numerals.{add-one}
+use native.Mathlib.Omega.{arith}
 use lib.Dec.{eqb}
 use lib.ListN.{length, getD, take, drop, set, replicate}
 use lib.Seq.{getD-set-other, getD-set-same, take-all, take-suc}
 use borrow.Author.Tests.{eqb-false, eqb-true}
-use Rattle.machine.specs.Lists.{all}
+use Rattle.machine.specs.Lists.{all, upFrom, upTo}
+use Rattle.machine.proofs.Laws.Tests.{both-left, both-right}
 
 &&-assoc : (a b c : Bool) → (a && (b && c)) ≡ (a && b && c)
 &&-assoc true b c = refl
@@ -27,6 +29,15 @@ module _ {A : Type 0} (f : A → Bool) where
   -- a loop's turn: one element more has been tested
   pub all-more : (l : List A) (i : ℕ) (d : A) → i < length l → all f (take (i + 1) l) ≡ (all f (take i l) && f (getD l i d))
   all-more l i d h = rw (add-one, take-suc l i d) (all-snoc (take i l) (getD l i d))
+
+-- a test that all numbers below a bound passed, each of them passed
+all-upFrom : (f : ℕ → Bool) (j n i : ℕ) → all f (upFrom j n) ≡ true → i < n → f (j + i) ≡ true
+all-upFrom f j zero i p h = absurd (not-suc-le-zero h)
+all-upFrom f j (suc n) zero p h = ap f (omega arith) ∙ both-left (f j) (all f (upFrom (suc j) n)) p
+all-upFrom f j (suc n) (suc i) p h = ap f (omega arith) ∙ all-upFrom f (suc j) n i (both-right (f j) (all f (upFrom (suc j) n)) p) (le-of-suc-le-suc h)
+
+pub all-upTo : (f : ℕ → Bool) (n i : ℕ) → all f (upTo n) ≡ true → i < n → f i ≡ true
+all-upTo f n i p h = ap f (omega arith) ∙ all-upFrom f 0 n i p h
 
 -- a list taken to its end and past it is the whole list, however far
 pub take-whole : {A : Type 0} (l : List A) (i j : ℕ) → length l ≤ i → length l ≤ j → take i l ≡ take j l

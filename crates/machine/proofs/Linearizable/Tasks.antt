@@ -1,7 +1,7 @@
 -- The plain queue's replies, one for each way that a call can end; and its tasks, as the slots show them from an index on.
 use mathlib.Core.Path.{_≡_, refl, ap, sym, _∙_, subst}
 use mathlib.Core.Bool.{Bool, true, false}
-use mathlib.Core.List.{List, [], _∷_, _++_}
+use mathlib.Core.List.{List, [], _∷_, _++_, map}
 use Prim.Native.Nat.{ℕ, zero, suc, _+_, _-_, _≤_, _<_}
 use native.Mathlib.Omega.{arith}
 use lib.Dec.{ltb, eqb}
@@ -9,6 +9,7 @@ use lib.ListN.{length, getD, take, drop, List·getD-append, length-append, lengt
 use lib.Seq.{drop-cons, drop-length, getD-append-seam, getD-drop, getD-take}
 use borrow.Author.Tests.{eq-eqb, ltb-false, ltb-true, ne-eqb}
 use Rattle.machine.specs.Types.{Task, Empty, Abort, Full, End}
+use Rattle.machine.specs.Lists.{upFrom, upTo}
 use Rattle.machine.specs.PlainQueue.{toldPut, toldTake, toldSteal, PlainQueue, Reply, StoredTask, joined, leaves, newest, respond, unchanged, withoutNewest}
 use Rattle.machine.proofs.Linearizable.Invariant.{taskAt}
 
@@ -94,3 +95,21 @@ module _ (load : ℕ → ℕ) (lo : ℕ) (l : List StoredTask) (shows : Shows lo
   shows-robbed k h =
       let within : 1 + k < length l = omega (arith, simp length-drop at h) in
       ap (λ a. a .number) (getD-drop 1 l k (record { put = 0; number = 0 })) ∙ shows (1 + k) within ∙ ap load (omega arith)
+
+-- .. as a list
+shows-from : (load : ℕ → ℕ) (j : ℕ) (l : List StoredTask) → ((k : ℕ) → k < length l → taskAt l k .number ≡ load (j + k)) → map (λ t. t .number) l ≡ map load (upFrom j (length l))
+shows-from load j [] shows = refl
+shows-from load j (t ∷ l) shows =
+    let first : j + 0 ≡ j = omega arith in
+    λ i.
+    (shows 0 (omega arith) ∙ ap load first) i
+    ∷ shows-from load (suc j) l (λ k h. shows (suc k) (omega arith) ∙ ap load (sym (further k))) i
+  where
+    further : (k : ℕ) → suc j + k ≡ j + suc k
+    further k = omega arith
+
+pub shows-list : (load : ℕ → ℕ) (lo : ℕ) (l : List StoredTask) → Shows load lo l → map (λ t. t .number) l ≡ map (λ k. load (lo + k)) (upTo (length l))
+shows-list load lo l shows = shows-from (λ k. load (lo + k)) 0 l (λ k h. shows k h ∙ ap (λ i. load (lo + i)) (zeroth k))
+  where
+    zeroth : (k : ℕ) → k ≡ 0 + k
+    zeroth k = omega arith
