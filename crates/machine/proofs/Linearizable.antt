@@ -8,6 +8,7 @@ pub mod Drain
 pub mod Thief
 pub mod Run
 pub mod Theorem
+pub mod AnyMargin
 use mathlib.Core.Path.{_≡_, refl, ap}
 use mathlib.Core.List.{List, [], _∷_, map}
 use Prim.Native.Nat.{ℕ}

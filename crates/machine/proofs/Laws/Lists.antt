@@ -30,6 +30,11 @@ module _ {A : Type 0} (f : A → Bool) where
   pub all-more : (l : List A) (i : ℕ) (d : A) → i < length l → all f (take (i + 1) l) ≡ (all f (take i l) && f (getD l i d))
   all-more l i d h = rw (add-one, take-suc l i d) (all-snoc (take i l) (getD l i d))
 
+  -- where each element passes a test, all do
+  pub all-getD : (l : List A) (d : A) → ((i : ℕ) → f (getD l i d) ≡ true) → all f l ≡ true
+  all-getD [] d each = refl
+  all-getD (x ∷ l) d each = rw (each 0) (all-getD l d (λ i. each (suc i)))
+
 -- a test that all numbers below a bound passed, each of them passed
 all-upFrom : (f : ℕ → Bool) (j n i : ℕ) → all f (upFrom j n) ≡ true → i < n → f (j + i) ≡ true
 all-upFrom f j zero i p h = absurd (not-suc-le-zero h)

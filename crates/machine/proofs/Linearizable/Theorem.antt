@@ -78,7 +78,7 @@ fresh-sound s b =
       lock = (refl, refl);
     }
 
-fresh-invariant : (s : Sizes) → sizesInRange s ≡ true → Invariant s 0 (watchFresh s)
+pub fresh-invariant : (s : Sizes) → sizesInRange s ≡ true → Invariant s 0 (watchFresh s)
 fresh-invariant s ranged =
     let count : s .start + 1 + 0 + 0 ≡ s .start + 1 + 0 = omega arith in
     let sum : s .start + 1 ≡ s .start + 1 + 0 = omega arith in

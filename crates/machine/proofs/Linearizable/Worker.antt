@@ -33,7 +33,7 @@ use Rattle.machine.proofs.Linearizable.Turn.{Turn, WorkerTurn, inside-c
 -- ── Facts of the invariant that the steps use ───────────────────────────────────────────────────────────────────────────────
 
 -- head is raised over one task at most
-raised-stolen : (p : ThiefCall) → raised p + stolen p ≤ 1
+pub raised-stolen : (p : ThiefCall) → raised p + stolen p ≤ 1
 raised-stolen ThiefCall.Idle = omega arith
 raised-stolen StealLock = omega arith
 raised-stolen StealLoadHead = omega arith

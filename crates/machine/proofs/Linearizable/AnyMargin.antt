@@ -1,0 +1,117 @@
+-- What holds of every run from the fresh machine, whichever margin is set: the machine is in range, and the pending take stores are never
+-- more than the needed margin.
+use mathlib.Core.Path.{_≡_, refl, ap, sym, _∙_, subst}
+use mathlib.Core.Bool.{Bool, true, false, _&&_, false≢true}
+use mathlib.Core.List.{List, [], _∷_}
+use Prim.Native.Nat.{ℕ, zero, suc, _+_, _≤_, _<_}
+use native.Mathlib.Omega.{arith}
+use lib.Dec.{leb}
+use lib.ListN.{getD, length, length-take}
+use borrow.Author.Tests.{le-leb}
+use Rattle.machine.specs.Types.{Entry, Index, Machine, Sizes, ThiefCall, StealLock, StealLoadHead, StealRaiseHead, StealLoadTail, StealLoadSlot, StealUnlockTask, StealRestoreHead, StealUnlockAbort, WorkerCall, PutLoadHead, PutStoreSlot, PutStoreTail, TakeStoreTail, TakeLoadHead, TakeLoadSlot, TakeLock, TakeReloadHead, TakeRestoreTail, TakeUnlockEmpty, TakeUnlockTask, TakeLoadLastSlot}
+use Rattle.machine.specs.Lists.{all}
+use Rattle.machine.specs.Sizes.{neededMargin, sizesInRange}
+use Rattle.machine.specs.Index.{indexInRange, slotIndexInRange}
+use Rattle.machine.specs.StoreBuffer.{pending}
+use Rattle.machine.specs.Machine.{fresh, idleThief, thiefCall}
+use Rattle.machine.specs.InRange.{inRange, storeInRange, thiefInRange, workerInRange}
+use Rattle.machine.specs.Obey.{machineAfter}
+use Rattle.machine.specs.Effect.{Watch, watchFresh, watched}
+use Rattle.machine.proofs.Laws.Lists.{all-getD}
+use Rattle.machine.proofs.Laws.Index.{idx, idx-in-range, idx-slot-in-range}
+use Rattle.machine.proofs.Laws.Chain.{chain-needed, chain-takeStores, takeStores}
+use Rattle.machine.proofs.Linearizable.Invariant.{InPlace, Invariant, Sound, holds, outside, raised, stolen}
+use Rattle.machine.proofs.Linearizable.Worker.{raised-stolen}
+use Rattle.machine.proofs.Linearizable.{watched-machine}
+use Rattle.machine.proofs.Linearizable.Theorem.{fresh-invariant, run-invariant}
+
+-- ── In range ────────────────────────────────────────────────────────────────────────────────────────────────────────────────
+
+index-ranged : (i : Index) (k : ℕ) → i ≡ idx k → k ≤ 2147483649 → indexInRange i ≡ true
+index-ranged i k here most = ap indexInRange here ∙ idx-in-range k ∙ le-leb k 2147483649 most
+
+slot-ranged : (i : Index) (k : ℕ) → i ≡ idx k → 1 ≤ k → k ≤ 2147483649 → slotIndexInRange i ≡ true
+slot-ranged i k here least most = ap slotIndexInRange here ∙ idx-slot-in-range k ∙ rw (le-leb 1 k least) (le-leb k 2147483649 most)
+
+module _ {n : ℕ} {m : Machine} {p : ThiefCall} where
+  worker-ranged : (c : WorkerCall) → Sound n m c p → workerInRange c ≡ true
+  worker-ranged WorkerCall.Idle v = refl
+  worker-ranged (PutLoadHead x) v = refl
+  worker-ranged (PutStoreSlot x) v = refl
+  worker-ranged PutStoreTail v = refl
+  worker-ranged TakeStoreTail v = refl
+  worker-ranged (TakeLoadHead t) v = index-ranged t (v .buffer .seen) (v .tail .holds-tail) (omega (arith, v .tail .top))
+  worker-ranged (TakeLoadSlot t) v = slot-ranged t (v .buffer .seen) (v .tail .holds-tail) (omega (arith, v .tail .floor)) (omega (arith, v .tail .top))
+  worker-ranged (TakeLock t) v = index-ranged t (v .buffer .seen) (v .tail .holds-tail) (omega (arith, v .tail .top))
+  worker-ranged (TakeReloadHead t) v = index-ranged t (v .buffer .seen) (v .tail .holds-tail) (omega (arith, v .tail .top))
+  worker-ranged (TakeRestoreTail t) v = index-ranged t (v .buffer .seen) (v .tail .holds-tail) (omega (arith, v .tail .top))
+  worker-ranged TakeUnlockEmpty v = refl
+  worker-ranged (TakeUnlockTask t) v = slot-ranged t (v .buffer .seen) (v .tail .holds-tail) (omega (arith, v .tail .floor)) (omega (arith, v .tail .top))
+  worker-ranged (TakeLoadLastSlot t) v = slot-ranged t (v .buffer .seen) (v .tail .holds-tail) (omega (arith, v .tail .floor)) (omega (arith, v .tail .top))
+
+module _ {n : ℕ} {m : Machine} {c : WorkerCall} where
+  inside-ranged : (p : ThiefCall) → Sound n m c p → thiefInRange p ≡ true
+  inside-ranged ThiefCall.Idle v = refl
+  inside-ranged StealLock v = refl
+  inside-ranged StealLoadHead v = refl
+  inside-ranged (StealRaiseHead h) v = index-ranged h (v .head .lo) (v .head .holds-head) (omega (arith, v .head .top))
+  inside-ranged (StealLoadTail h) v = index-ranged h (v .head .lo) (v .head .holds-head) (omega (arith, v .head .top))
+  inside-ranged (StealLoadSlot h) v = slot-ranged h (v .head .lo) (v .head .holds-head) (omega (arith, v .head .floor)) (omega (arith, v .head .top))
+  inside-ranged (StealUnlockTask x) v = refl
+  inside-ranged (StealRestoreHead h) v = index-ranged h (v .head .lo) (v .head .holds-head) (omega (arith, v .head .top))
+  inside-ranged StealUnlockAbort v = refl
+
+outside-ranged : (c : ThiefCall) → outside c ≡ true → thiefInRange c ≡ true
+outside-ranged ThiefCall.Idle out = refl
+outside-ranged StealLock out = refl
+outside-ranged StealLoadHead out = refl
+outside-ranged (StealRaiseHead h) out = absurd (false≢true out)
+outside-ranged (StealLoadTail h) out = absurd (false≢true out)
+outside-ranged (StealLoadSlot h) out = absurd (false≢true out)
+outside-ranged (StealUnlockTask x) out = refl
+outside-ranged (StealRestoreHead h) out = absurd (false≢true out)
+outside-ranged StealUnlockAbort out = refl
+
+-- a machine of the invariant, after at most 4,096 entries, is in range
+invariant-ranged : {s : Sizes} {n : ℕ} {w : Watch} → Invariant s n w → sizesInRange s ≡ true → n ≤ 4096 → inRange (w .machine) ≡ true
+unfolding inRange
+invariant-ranged {w = w} v ranged short =
+    let m = w .machine in
+    let u = v .sound in
+    rw (
+      ap sizesInRange (v .sizes-are) ∙ ranged,
+      le-leb (m .buffer .count) (m .sizes .buffer) (u .buffer .fits),
+      le-leb (m .since) 4096 (omega (arith, u .counted)),
+      index-ranged (m .head) (u .head .lo + (raised (v .inside) + stolen (v .inside))) (u .head .head-is) (omega (arith, u .head .top, raised-stolen (v .inside))),
+      u .buffer .tail-ranged,
+      u .buffer .ranged,
+      worker-ranged (m .worker .call) u,
+    )
+    (all-getD (λ t. thiefInRange (t .call)) (m .thieves) idleThief (λ i. each i (holds (m .lock .holder) i) (v .thieves i)))
+  where
+    each : (i : ℕ) (b : Bool) → InPlace b (w .machine .sizes .thieves) i (v .inside) (thiefCall (w .machine) i) → thiefInRange (thiefCall (w .machine) i) ≡ true
+    each i true place = ap thiefInRange (place .0) ∙ inside-ranged (v .inside) (v .sound)
+    each i false place = outside-ranged (thiefCall (w .machine) i) place
+
+-- every machine that a run of at most 4,096 entries reaches is in range
+pub run-in-range : (s : Sizes) (es : List Entry) → sizesInRange s ≡ true → length es ≤ 4096 → inRange (machineAfter (fresh s) es) ≡ true
+run-in-range s es ranged short =
+    let v = run-invariant s 0 (watchFresh s) es (fresh-invariant s ranged) in
+    ap inRange (sym (watched-machine (watchFresh s) es)) ∙ invariant-ranged v ranged (omega arith)
+
+-- ── Pending take stores ─────────────────────────────────────────────────────────────────────────────────────────────────────
+
+-- how many of the pending stores are a take's step 1 is at most the needed margin, after every list of entries
+pub run-take-stores :
+    (s : Sizes) (es : List Entry) → sizesInRange s ≡ true
+    → takeStores (machineAfter (fresh s) es .tail) (pending (machineAfter (fresh s) es .buffer)) ≤ neededMargin (s .buffer) (s .spacing)
+run-take-stores s es ranged =
+    let v = run-invariant s 0 (watchFresh s) es (fresh-invariant s ranged) in
+    let m = watched (watchFresh s) es .machine in
+    let b = v .sound .buffer in
+    let short : length (pending (m .buffer)) ≤ m .sizes .buffer = simp length-take (omega (arith, b .fits)) in
+    let dips : takeStores (m .tail) (pending (m .buffer)) ≡ b .dips = ap (λ t. takeStores t (pending (m .buffer))) (b .tail-is) ∙ chain-takeStores (b .chain) in
+    let few : b .dips ≤ neededMargin (m .sizes .buffer) (m .sizes .spacing) = chain-needed (m .sizes .buffer) (b .few) short (b .chain) in
+    let here : takeStores (m .tail) (pending (m .buffer)) ≤ neededMargin (m .sizes .buffer) (m .sizes .spacing) = omega arith in
+    subst (λ m. takeStores (m .tail) (pending (m .buffer)) ≤ neededMargin (s .buffer) (s .spacing)) (watched-machine (watchFresh s) es)
+    (subst (λ s. takeStores (m .tail) (pending (m .buffer)) ≤ neededMargin (s .buffer) (s .spacing)) (v .sizes-are) here)
