@@ -4,7 +4,7 @@
 --
 -- Indices are natural numbers, one above (`Laws.Index`). Nothing here knows which store is allowed when: whoever pushes shows that.
 use mathlib.Core.Path.{_≡_, refl, ap}
-use mathlib.Core.Bool.{Bool, true, false, cond}
+use mathlib.Core.Bool.{Bool, false, cond}
 use mathlib.Core.List.{List, [], _∷_, _++_, foldl}
 use Prim.Native.Nat.{ℕ, suc, _+_, _-_, _*_, _≤_, _<_}
 use native.Mathlib.Nat.{le-div-iff-mul-le, le-refl, suc-add, suc-mul, zero-add, zero-mul}

@@ -168,5 +168,5 @@ pub idx-slots-apart :
     (n lo i j : ℕ) → 1 ≤ lo → lo ≤ i → i < lo + n → lo ≤ j → j < lo + n → slotOf n (idx i) ≡ slotOf n (idx j) → i ≡ j
 idx-slots-apart n lo i j some a b c d same =
     let e = slots-apart n (lo - 1) (i - 1) (j - 1) (omega arith) (omega arith) (omega arith) (omega arith)
-            (sym (idx-slot n i (omega arith)) ∙ same ∙ idx-slot n j (omega arith)) in
+    (sym (idx-slot n i (omega arith)) ∙ same ∙ idx-slot n j (omega arith)) in
     omega arith

@@ -1,11 +1,9 @@
 -- What the worker and the thieves load, under a push and under a drain; and indices of a window, whose slots are apart.
-use mathlib.Core.Path.{_≡_, refl, ap, sym, _∙_}
-use mathlib.Core.Bool.{cond}
-use mathlib.Core.List.{List, foldl}
+use mathlib.Core.Path.{_≡_, refl}
+use mathlib.Core.List.{List, [], _∷_, foldl}
 use Prim.Native.Nat.{ℕ, _+_, _≤_, _<_}
 use native.Mathlib.Omega.{arith}
-use lib.Dec.{eqb}
-use lib.ListN.{length, getD}
+use lib.ListN.{length}
 use borrow.Author.Tests.{ne-eqb}
 use Rattle.machine.specs.Types.{Index, Machine, Store, Slot}
 use Rattle.machine.specs.Index.{slotOf}
@@ -14,7 +12,7 @@ use Rattle.machine.specs.Machine.{memoryLoad, workerLoad, workerTail}
 use Rattle.machine.specs.Update.{pushed, withMemory}
 use Rattle.machine.proofs.Laws.Index.{idx, idx-slots-apart}
 use Rattle.machine.proofs.Laws.StoreBuffer.{drain-newestInSlot, drain-newestTail, push-newestInSlot, push-newestTail}
-use Rattle.machine.proofs.Laws.Chain.{SlotsWithin, no-store, past-tail, past-client, between}
+use Rattle.machine.proofs.Laws.Chain.{SlotsWithin, past-tail, past-client, between, slots-land}
 
 -- ── The worker ──────────────────────────────────────────────────────────────────────────────────────────────────────────────
 
@@ -54,13 +52,19 @@ pub slotAfter-apart :
 slotAfter-apart n lo i j x v some a b c d apart =
     rw (ne-eqb (slotOf n (idx i)) (slotOf n (idx j)) (λ same. apart (idx-slots-apart n lo i j some a b c d same)))
 
--- stores to indices above h, within the window that h begins, leave what lies at h
-pub slots-leave :
-    {bound : ℕ} {b : List Store} (n h v : ℕ) → 1 ≤ h → bound ≤ h + n → SlotsWithin h bound b
-    → foldl (λ u a. slotAfter n (slotOf n (idx h)) u (a .kind)) v b ≡ v
-slots-leave n h v some window no-store = refl
-slots-leave n h v some window (past-tail k) = slots-leave n h v some window k
-slots-leave n h v some window (past-client k) = slots-leave n h v some window k
-slots-leave n h v some window (between k x above below rest) =
+-- .. so the oldest of stores to indices above h, within the window that h begins, leaves what lies at h ..
+pub slots-leave-one :
+    {bound : ℕ} {a : Store} {b : List Store} (n h v : ℕ) → 1 ≤ h → bound ≤ h + n → SlotsWithin h bound (a ∷ b)
+    → slotAfter n (slotOf n (idx h)) v (a .kind) ≡ v
+slots-leave-one n h v some window (past-tail r) = refl
+slots-leave-one n h v some window (past-client r) = refl
+slots-leave-one n h v some window (between k x above below r) =
     let apart : k ≡ h → ⊥ = λ same. omega arith in
-    rw (slotAfter-apart n h k h x v some (omega arith) (omega arith) (omega arith) (omega arith) apart) (slots-leave n h v some window rest)
+    slotAfter-apart n h k h x v some (omega arith) (omega arith) (omega arith) (omega arith) apart
+
+-- .. and so do all of them
+pub slots-leave :
+    {bound : ℕ} (b : List Store) (n h v : ℕ) → 1 ≤ h → bound ≤ h + n → SlotsWithin h bound b
+    → foldl (λ u a. slotAfter n (slotOf n (idx h)) u (a .kind)) v b ≡ v
+slots-leave [] n h v some window k = refl
+slots-leave (a ∷ b) n h v some window k = rw (slots-leave-one n h v some window k) (slots-leave b n h v some window (slots-land k))

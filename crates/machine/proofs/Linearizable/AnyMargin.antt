@@ -1,28 +1,25 @@
 -- What holds of every run from the fresh machine, whichever margin is set: the machine is in range, and the pending take stores are never
 -- more than the needed margin.
 use mathlib.Core.Path.{_≡_, refl, ap, sym, _∙_, subst}
-use mathlib.Core.Bool.{Bool, true, false, _&&_, false≢true}
-use mathlib.Core.List.{List, [], _∷_}
-use Prim.Native.Nat.{ℕ, zero, suc, _+_, _≤_, _<_}
+use mathlib.Core.Bool.{Bool, true, false, false≢true}
+use mathlib.Core.List.{List}
+use Prim.Native.Nat.{ℕ, _+_, _≤_}
 use native.Mathlib.Omega.{arith}
-use lib.Dec.{leb}
-use lib.ListN.{getD, length, length-take}
+use lib.ListN.{length, length-take}
 use borrow.Author.Tests.{le-leb}
 use Rattle.machine.specs.Types.{Entry, Index, Machine, Sizes, ThiefCall, StealLock, StealLoadHead, StealRaiseHead, StealLoadTail, StealLoadSlot, StealUnlockTask, StealRestoreHead, StealUnlockAbort, WorkerCall, PutLoadHead, PutStoreSlot, PutStoreTail, TakeStoreTail, TakeLoadHead, TakeLoadSlot, TakeLock, TakeReloadHead, TakeRestoreTail, TakeUnlockEmpty, TakeUnlockTask, TakeLoadLastSlot}
-use Rattle.machine.specs.Lists.{all}
 use Rattle.machine.specs.Sizes.{neededMargin, sizesInRange}
 use Rattle.machine.specs.Index.{indexInRange, slotIndexInRange}
 use Rattle.machine.specs.StoreBuffer.{pending}
 use Rattle.machine.specs.Machine.{fresh, idleThief, thiefCall}
-use Rattle.machine.specs.InRange.{inRange, storeInRange, thiefInRange, workerInRange}
+use Rattle.machine.specs.InRange.{inRange, thiefInRange, workerInRange}
 use Rattle.machine.specs.Obey.{machineAfter}
 use Rattle.machine.specs.Effect.{Watch, watchFresh, watched}
 use Rattle.machine.proofs.Laws.Lists.{all-getD}
 use Rattle.machine.proofs.Laws.Index.{idx, idx-in-range, idx-slot-in-range}
 use Rattle.machine.proofs.Laws.Chain.{chain-needed, chain-takeStores, takeStores}
-use Rattle.machine.proofs.Linearizable.Invariant.{InPlace, Invariant, Sound, holds, outside, raised, stolen}
-use Rattle.machine.proofs.Linearizable.Worker.{raised-stolen}
-use Rattle.machine.proofs.Linearizable.{watched-machine}
+use Rattle.machine.proofs.Linearizable.Invariant.{InPlace, Invariant, Sound, holds, outside, raised, raised-stolen, stolen}
+use Rattle.machine.proofs.Linearizable.Watched.{watched-machine}
 use Rattle.machine.proofs.Linearizable.Theorem.{fresh-invariant, run-invariant}
 
 -- ── In range ────────────────────────────────────────────────────────────────────────────────────────────────────────────────

@@ -1,14 +1,14 @@
 -- A drain keeps the invariant: the oldest store of the chain lands, and nothing changes that the worker loads, or that a thief is about to load.
 use mathlib.Core.Path.{_≡_, refl, ap, sym, _∙_, subst}
 use mathlib.Core.Bool.{true, _&&_, false≢true}
-use mathlib.Core.List.{List, [], _∷_, _++_}
-use Prim.Native.Nat.{ℕ, zero, suc, _+_, _-_, _≤_, _<_}
+use mathlib.Core.List.{List, [], _∷_}
+use Prim.Native.Nat.{ℕ, _+_, _-_, _≤_, _<_}
 use native.Mathlib.Omega.{arith}
-use lib.ListN.{length, drop, getD, length-append, length-drop, length-take}
+use lib.ListN.{length, drop, length-append, length-drop, length-take}
 use Rattle.machine.specs.Types.{Index, Machine, Sizes, Slot, Store, StoreBuffer, StoreKind, Client, Tail, ThiefCall, StealLock, StealLoadHead, StealRaiseHead, StealLoadTail, StealLoadSlot, StealUnlockTask, StealRestoreHead, StealUnlockAbort, Task, WorkerCall, PutLoadHead, PutStoreSlot, PutStoreTail, TakeStoreTail, TakeLoadHead, TakeLoadSlot, TakeLock, TakeReloadHead, TakeRestoreTail, TakeUnlockEmpty, TakeUnlockTask, TakeLoadLastSlot}
 use Rattle.machine.specs.Lists.{all}
 use Rattle.machine.specs.Index.{indexInRange, slotOf}
-use Rattle.machine.specs.StoreBuffer.{clientStore, dropOldest, oldest, pending, slotAfter, slotsAfter, tailAfter}
+use Rattle.machine.specs.StoreBuffer.{dropOldest, oldest, pending, tailAfter}
 use Rattle.machine.specs.InRange.{storeInRange}
 use Rattle.machine.specs.Machine.{memoryLoad, workerLoad, workerTail}
 use Rattle.machine.specs.PlainQueue.{PlainQueue}
@@ -18,11 +18,11 @@ use Rattle.machine.proofs.Laws.Tests.{both-left, both-right}
 use Rattle.machine.proofs.Laws.Sizes.{Bounds}
 use Rattle.machine.proofs.Laws.Index.{idx, idx-slot-below}
 use Rattle.machine.proofs.Laws.StoreBuffer.{dropOldest-pending, pending-oldest, slotsAfter-length, slotsAfter-slotAfter}
-use Rattle.machine.proofs.Laws.Chain.{Chain, Landed, SlotsWithin, between, chain-land, slots-land, no-store, past-client, past-tail}
-use Rattle.machine.proofs.Laws.Loads.{drained, drained-workerLoad, drained-workerTail, slotAfter-apart}
-use Rattle.machine.proofs.Linearizable.Invariant.{Agrees, AgreesOn, Pending, Sound, Unwritten, lowered, outside, stolen, workerBegun}
+use Rattle.machine.proofs.Laws.Chain.{Chain, Landed, SlotsWithin, chain-land, slots-land}
+use Rattle.machine.proofs.Laws.Loads.{drained, drained-workerLoad, drained-workerTail, slots-leave-one}
+use Rattle.machine.proofs.Linearizable.Invariant.{AgreesOn, Pending, Sound, Unwritten, outside, stolen, workerBegun}
 use Rattle.machine.proofs.Linearizable.Tasks.{shows-load}
-use Rattle.machine.proofs.Linearizable.Turn.{seen-tail}
+use Rattle.machine.proofs.Linearizable.Rebuild.{seen-tail}
 
 pub tail-in-range : (t : Index) (k : StoreKind) → indexInRange t ≡ true → storeInRange k ≡ true → indexInRange (tailAfter t k) ≡ true
 tail-in-range t Client h k = h
@@ -76,15 +76,6 @@ unwritten-lands (StealUnlockTask x) lo bound a b u = tt
 unwritten-lands (StealRestoreHead h) lo bound a b u = tt
 unwritten-lands StealUnlockAbort lo bound a b u = tt
 
--- a store above h, within the window that h begins, leaves what lies at h
-slot-unwritten :
-    {bound : ℕ} {a : Store} {b : List Store} (n h v : ℕ) → 1 ≤ h → bound ≤ h + n → SlotsWithin h bound (a ∷ b) → slotAfter n (slotOf n (idx h)) v (a .kind) ≡ v
-slot-unwritten n h v some window (past-tail r) = refl
-slot-unwritten n h v some window (past-client r) = refl
-slot-unwritten n h v some window (between k x above below r) =
-    let apart : k ≡ h → ⊥ = λ same. omega arith in
-    slotAfter-apart n h k h x v some (omega arith) (omega arith) (omega arith) (omega arith) apart
-
 module _ {n : ℕ} {m : Machine} {c : WorkerCall} {p : ThiefCall} (v : Sound n m c p) (some : 0 < m .buffer .count) where
   same-tail : workerTail (drained m) ≡ workerTail m
   same-tail = drained-workerTail m some (within-cells (v .buffer) (v .sizes) some)
@@ -119,9 +110,9 @@ module _ {n : ℕ} {m : Machine} {c : WorkerCall} {p : ThiefCall} (v : Sound n m
         room = g .room;
         below = g .below;
         shows = shows-load (λ k. workerLoad m (idx k)) (v .head .lo + stolen p) (q .tasks) (g .shows) (λ k. workerLoad (drained m) (idx k))
-          (λ k h. same-load (v .head .lo + stolen p + k) (omega (arith, v .head .floor)));
+            (λ k h. same-load (v .head .lo + stolen p + k) (omega (arith, v .head .floor)));
         unwritten = rw (dropOldest-pending (m .buffer) some (within-cells (v .buffer) (v .sizes) some))
-          (unwritten-lands p (v .head .lo) (v .buffer .bound) (oldest (m .buffer)) (drop 1 (pending (m .buffer)))
+            (unwritten-lands p (v .head .lo) (v .buffer .bound) (oldest (m .buffer)) (drop 1 (pending (m .buffer)))
             (subst (Unwritten p (v .head .lo) (v .buffer .bound)) (first (v .buffer) (v .sizes) some) (g .unwritten)));
       }
 
@@ -170,9 +161,9 @@ module _ {n : ℕ} {m : Machine} {c : WorkerCall} (some : 0 < m .buffer .count) 
       let lo = v .head .lo in
       let there = idx-slot-below n lo (omega (arith, v .sizes .slots-least)) (omega (arith, v .head .floor)) in
       let load : memoryLoad (drained m) (idx lo) ≡ memoryLoad m (idx lo) =
-          slotsAfter-slotAfter n (slotOf n (idx lo)) (m .slots) (oldest (m .buffer) .kind) (omega (arith, v .memory, v .sizes .slots-most))
-          ∙ slot-unwritten n lo (memoryLoad m (idx lo)) (omega (arith, v .head .floor)) (g .below)
-            (subst (SlotsWithin lo (v .buffer .bound)) (first (v .buffer) (v .sizes) some) (g .unwritten))
+      slotsAfter-slotAfter n (slotOf n (idx lo)) (m .slots) (oldest (m .buffer) .kind) (omega (arith, v .memory, v .sizes .slots-most))
+      ∙ slots-leave-one n lo (memoryLoad m (idx lo)) (omega (arith, v .head .floor)) (g .below)
+      (subst (SlotsWithin lo (v .buffer .bound)) (first (v .buffer) (v .sizes) some) (g .unwritten))
       in
       ap (λ x. Task x ∷ []) (ap (memoryLoad (drained m)) (v .head .holds-head) ∙ load ∙ ap (memoryLoad m) (sym (v .head .holds-head)))
   drained-owes-inside (StealUnlockTask x) v q g = refl

@@ -7,8 +7,9 @@
 -- `Sound` holds whichever margin is set; `Agrees` needs one that is enough.
 use mathlib.Core.Path.{_≡_}
 use mathlib.Core.Bool.{Bool, true, false, cond}
-use mathlib.Core.List.{List, map}
+use mathlib.Core.List.{List}
 use Prim.Native.Nat.{ℕ, _+_, _-_, _≤_, _<_}
+use native.Mathlib.Omega.{arith}
 use lib.Dec.{eqb}
 use lib.ListN.{length, getD}
 use Rattle.machine.specs.Types.{Holder, Nobody, TheWorker, TheThief, Index, Machine, Outcome, Sizes, Store, StoreBuffer, ThiefCall, StealLock, StealLoadHead, StealRaiseHead, StealLoadTail, StealLoadSlot, StealUnlockTask, StealRestoreHead, StealUnlockAbort, WorkerCall, PutLoadHead, PutStoreSlot, PutStoreTail, TakeStoreTail, TakeLoadHead, TakeLoadSlot, TakeLock, TakeReloadHead, TakeRestoreTail, TakeUnlockEmpty, TakeUnlockTask, TakeLoadLastSlot}
@@ -150,6 +151,18 @@ stolen (StealUnlockTask x) = 0
 stolen (StealRestoreHead h) = 0
 stolen StealUnlockAbort = 0
 
+-- head is above lo by one at most
+pub raised-stolen : (p : ThiefCall) → raised p + stolen p ≤ 1
+raised-stolen ThiefCall.Idle = omega arith
+raised-stolen StealLock = omega arith
+raised-stolen StealLoadHead = omega arith
+raised-stolen (StealRaiseHead h) = omega arith
+raised-stolen (StealLoadTail h) = omega arith
+raised-stolen (StealLoadSlot h) = omega arith
+raised-stolen (StealUnlockTask x) = omega arith
+raised-stolen (StealRestoreHead h) = omega arith
+raised-stolen StealUnlockAbort = omega arith
+
 -- the index that it holds is lo
 abbrev pub HoldsHead : ThiefCall → ℕ → Type 0
 HoldsHead ThiefCall.Idle lo = Unit {0}
@@ -242,6 +255,10 @@ pub record Heading (start : ℕ) (head : Index) (p : ThiefCall) : Type 0 where
   pub holds-head : HoldsHead p lo
   pub floor : start + 1 ≤ lo
   pub top : lo + stolen p ≤ 2147483648
+
+-- memory's head
+abbrev pub head-at : {start : ℕ} {head : Index} {p : ThiefCall} → Heading start head p → ℕ
+head-at {p = p} v = v .lo + (raised p + stolen p)
 
 -- The queue's tail, by what the worker has done to it.
 pub record Tailing (start seen : ℕ) (c : WorkerCall) : Type 0 where

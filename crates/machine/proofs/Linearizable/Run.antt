@@ -3,10 +3,10 @@
 use mathlib.Core.Path.{_≡_, refl, ap, sym, _∙_, subst}
 use mathlib.Core.Bool.{Bool, true, false, cond, not, _&&_, false≢true}
 use mathlib.Core.List.{List, [], _∷_, _++_, append-nil, map, map-append}
-use Prim.Native.Nat.{ℕ, zero, suc, _+_, _≤_, _<_}
+use Prim.Native.Nat.{ℕ, _+_, _<_}
 use native.Mathlib.Omega.{arith}
-use lib.Dec.{eqb, ltb}
-use lib.ListN.{getD, length, length-set, set}
+use lib.Dec.{eqb}
+use lib.ListN.{length, length-set}
 use lib.Seq.{getD-set-other, getD-set-same}
 use borrow.Author.Tests.{eq-eqb, eqb-false, eqb-true, ltb-true, ne-eqb, not-true}
 use Rattle.machine.specs.Types.{Done, Entry, Drain, ClientStore, BeginPut, BeginTake, WorkerStep, BeginSteal, ThiefStep, Machine, Outcome, Moved, Wait, Sizes, Task, ThiefCall, StealLock, StealLoadHead, StealRaiseHead, StealLoadTail, StealLoadSlot, StealUnlockTask, StealRestoreHead, StealUnlockAbort, WorkerCall, PutLoadHead, PutStoreSlot, PutStoreTail, TakeStoreTail, TakeLoadHead, TakeLoadSlot, TakeLock, TakeReloadHead, TakeRestoreTail, TakeUnlockEmpty, TakeUnlockTask, TakeLoadLastSlot}
@@ -15,16 +15,16 @@ use Rattle.machine.specs.Sizes.{enoughMargin}
 use Rattle.machine.specs.Outcome.{isAnswer, isRefusal}
 use Rattle.machine.specs.Machine.{done, idleThief, memoryLoad, nothingPending, thiefCall, workerLoad, workerTail}
 use Rattle.machine.specs.InRange.{inRange}
-use Rattle.machine.specs.Obey.{drain, obey, obeyInRange, thiefIsThere}
+use Rattle.machine.specs.Obey.{obey, obeyInRange, thiefIsThere}
 use Rattle.machine.specs.PlainQueue.{Told, PlainQueue, Reply, respond, withinLimits}
-use Rattle.machine.specs.Effect.{Begun, nothing, aPut, aTake, aSteal, Effect, none, Party, worker, thief, PartyCall, Watch, begunBy, callAfter, effectOf, noCall, orBegun, partyOf, queueAfter, sameParty, toldOf, watchAfter}
+use Rattle.machine.specs.Effect.{Begun, nothing, aPut, aTake, aSteal, Effect, none, Party, worker, thief, PartyCall, Watch, begunBy, callAfter, effectOf, noCall, orBegun, partyOf, queueAfter, sameParty}
 use Rattle.machine.specs.Linearizable.{answersTo, thiefOwes, workerOwes}
 use Rattle.machine.proofs.Laws.Tests.{both-right, decide}
 use Rattle.machine.proofs.Laws.Loads.{drained}
-use Rattle.machine.proofs.Linearizable.Invariant.{AgreesOn, Follows, InPlace, Invariant, Sound, holds, outside, thiefBegun, workerBegun}
-use Rattle.machine.proofs.Linearizable.Turn.{Turn, WorkerTurn, begunAfter, orElse, owedAfter, toldIn, worked}
+use Rattle.machine.proofs.Linearizable.Invariant.{AgreesOn, Follows, InPlace, Invariant, Sound, holds, thiefBegun, workerBegun}
+use Rattle.machine.proofs.Linearizable.Turn.{ThiefTurn, Turn, WorkerTurn, begunAfter, orElse, owedAfter, raided, toldIn, worked}
 use Rattle.machine.proofs.Linearizable.Worker.{begin-put, begin-take, client-store, worker-step}
-use Rattle.machine.proofs.Linearizable.Thief.{ThiefTurn, begin-steal, raided, thief-step}
+use Rattle.machine.proofs.Linearizable.Thief.{begin-steal, thief-step}
 use Rattle.machine.proofs.Linearizable.Drain.{drained-agrees, drained-begun, drained-owes, drained-owes-inside, drained-owes-outside, drained-sound}
 
 -- ── A party's call ──────────────────────────────────────────────────────────────────────────────────────────────────────────
@@ -56,7 +56,7 @@ follows-after call b owed replies o e f = go (isAnswer o) (isRefusal o)
 
     go : (answer refusal : Bool)
         → Follows (cond answer noCall (cond refusal (withReplies call replies) (orBegun (withReplies call replies) (begunBy e))))
-          (cond answer nothing (cond refusal b (orElse b (begunBy e)))) (cond answer [] (owed ++ map (λ r. r .answer) replies))
+        (cond answer nothing (cond refusal b (orElse b (begunBy e)))) (cond answer [] (owed ++ map (λ r. r .answer) replies))
     go true refusal = record { begun = refl; answers = refl }
     go false true = more
     go false false = follows-begun (withReplies call replies) b (owed ++ map (λ r. r .answer) replies) (begunBy e) more
@@ -72,17 +72,17 @@ turned {n = n} {b = b} {owed = owed} {q = q} {told = told} {o = o} {e = e} {A = 
     let heard : t .replies ≡ map (respond q) (toldIn (call .begun) o effect) = t .are ∙ ap (map (respond q)) same in
     record {
       follows =
-        subst (λ rs. Follows (callAfter (withReplies call rs) o e) _ _) heard
-        (record {
-          begun = follows-after call b owed (t .replies) o e f .begun ∙ sym (t .begun);
-          answers = follows-after call b owed (t .replies) o e f .answers ∙ sym (t .owes);
-        });
+          subst (λ rs. Follows (callAfter (withReplies call rs) o e) _ _) heard
+          (record {
+            begun = follows-after call b owed (t .replies) o e f .begun ∙ sym (t .begun);
+            answers = follows-after call b owed (t .replies) o e f .answers ∙ sym (t .owes);
+          });
       limits = ap (all (withinLimits n q)) (sym same) ∙ t .limits;
       answers = λ answer.
-        map-append (λ r. r .answer) (call .replies) (map (respond q) (toldIn (call .begun) o effect))
-        ∙ ap (λ l. l ++ map (λ r. r .answer) (map (respond q) (toldIn (call .begun) o effect))) (f .answers)
-        ∙ ap (λ rs. owed ++ map (λ r. r .answer) rs) (sym heard)
-        ∙ t .answers answer;
+          map-append (λ r. r .answer) (call .replies) (map (respond q) (toldIn (call .begun) o effect))
+          ∙ ap (λ l. l ++ map (λ r. r .answer) (map (respond q) (toldIn (call .begun) o effect))) (f .answers)
+          ∙ ap (λ rs. owed ++ map (λ r. r .answer) rs) (sym heard)
+          ∙ t .answers answer;
       agrees = subst (λ rs. A (queueAfter q rs)) heard (t .agrees);
     }
 
@@ -187,7 +187,7 @@ module _ {s : Sizes} {n : ℕ} {w : Watch} (v : Invariant s n w) where
             agrees = λ enough. turn enough .agrees;
             worker-call = λ enough. turn enough .follows;
             thief-call = λ enough i.
-              record { begun = v .thief-call enough i .begun; answers = v .thief-call enough i .answers ∙ thiefOwes-same m m′ refl (thiefCall m i) };
+                record { begun = v .thief-call enough i .begun; answers = v .thief-call enough i .answers ∙ thiefOwes-same m m′ refl (thiefCall m i) };
           }
 
       limits : enoughMargin s ≡ true → all (withinLimits (s .slots) (w .queue)) (toldBy w worker e (done (t .outcome) m′)) ≡ true
@@ -237,19 +237,19 @@ module _ {s : Sizes} {n : ℕ} {w : Watch} (v : Invariant s n w) where
             long = length-set (m .thieves) i (record { call = t .call }) ∙ v .long;
             sound = t .sound;
             thieves =
-              each (λ j c. InPlace (holds (t .lock .holder) j) (m .sizes .thieves) j (t .inside) c) (t .in-place)
-              (λ j apart. t .others j (thiefCall m j) apart (v .thieves j));
+                each (λ j c. InPlace (holds (t .lock .holder) j) (m .sizes .thieves) j (t .inside) c) (t .in-place)
+                (λ j apart. t .others j (thiefCall m j) apart (v .thieves j));
             agrees = λ enough. turn enough .agrees;
             worker-call = λ enough.
-              record {
-                begun = v .worker-call enough .begun ∙ workerBegun-same m m′ refl refl (m .worker .call);
-                answers = v .worker-call enough .answers ∙ workerOwes-same m m′ refl (m .worker .call);
-              };
+                record {
+                  begun = v .worker-call enough .begun ∙ workerBegun-same m m′ refl refl (m .worker .call);
+                  answers = v .worker-call enough .answers ∙ workerOwes-same m m′ refl (m .worker .call);
+                };
             thief-call = λ enough.
-              each (λ j c. Follows (cond (eqb j i) (callAfter (callBy w (thief i) e (done (t .outcome) m′)) (t .outcome) e) (w .calls (thief j))) (thiefBegun c) (thiefOwes m′ c))
-              (subst (λ b. Follows (cond b (callAfter (callBy w (thief i) e (done (t .outcome) m′)) (t .outcome) e) (w .calls (thief i))) (thiefBegun (t .call)) (thiefOwes m′ (t .call)))
+                each (λ j c. Follows (cond (eqb j i) (callAfter (callBy w (thief i) e (done (t .outcome) m′)) (t .outcome) e) (w .calls (thief j))) (thiefBegun c) (thiefOwes m′ c))
+                (subst (λ b. Follows (cond b (callAfter (callBy w (thief i) e (done (t .outcome) m′)) (t .outcome) e) (w .calls (thief i))) (thiefBegun (t .call)) (thiefOwes m′ (t .call)))
                 (sym (eq-eqb i i refl)) (turn enough .follows))
-              (λ j apart.
+                (λ j apart.
                 subst (λ b. Follows (cond b (callAfter (callBy w (thief i) e (done (t .outcome) m′)) (t .outcome) e) (w .calls (thief j))) (thiefBegun (thiefCall m j)) (thiefOwes m′ (thiefCall m j)))
                 (sym (ne-eqb j i apart))
                 (record { begun = v .thief-call enough j .begun; answers = v .thief-call enough j .answers ∙ thiefOwes-same m m′ refl (thiefCall m j) }));
@@ -284,17 +284,17 @@ module _ {s : Sizes} {n : ℕ} {w : Watch} (v : Invariant s n w) where
             thieves = v .thieves;
             agrees = λ enough. drained-agrees (v .sound) some (w .queue) (v .agrees enough);
             worker-call = λ enough.
-              record {
-                begun = v .worker-call enough .begun ∙ sym (drained-begun some (m .worker .call) (v .sound));
-                answers =
-                  ap (map (λ r. r .answer)) (append-nil (w .calls worker .replies))
-                  ∙ v .worker-call enough .answers ∙ sym (drained-owes some (m .worker .call) (v .sound));
-              };
+                record {
+                  begun = v .worker-call enough .begun ∙ sym (drained-begun some (m .worker .call) (v .sound));
+                  answers =
+                      ap (map (λ r. r .answer)) (append-nil (w .calls worker .replies))
+                      ∙ v .worker-call enough .answers ∙ sym (drained-owes some (m .worker .call) (v .sound));
+                };
             thief-call = λ enough i.
-              record {
-                begun = v .thief-call enough i .begun;
-                answers = v .thief-call enough i .answers ∙ thief-owes enough i (holds (m .lock .holder) i) (v .thieves i);
-              };
+                record {
+                  begun = v .thief-call enough i .begun;
+                  answers = v .thief-call enough i .answers ∙ thief-owes enough i (holds (m .lock .holder) i) (v .thieves i);
+                };
           }
 
   -- a party's call, after an entry of party p that was refused
@@ -315,16 +315,16 @@ module _ {s : Sizes} {n : ℕ} {w : Watch} (v : Invariant s n w) where
   by-nobody p e =
       record {
         next =
-          record {
-            inside = v .inside;
-            sizes-are = v .sizes-are;
-            long = v .long;
-            sound = later (v .sound);
-            thieves = v .thieves;
-            agrees = λ enough. v .agrees enough;
-            worker-call = λ enough. unmoved p worker _ _ (v .worker-call enough);
-            thief-call = λ enough i. unmoved p (thief i) _ _ (v .thief-call enough i);
-          };
+            record {
+              inside = v .inside;
+              sizes-are = v .sizes-are;
+              long = v .long;
+              sound = later (v .sound);
+              thieves = v .thieves;
+              agrees = λ enough. v .agrees enough;
+              worker-call = λ enough. unmoved p worker _ _ (v .worker-call enough);
+              thief-call = λ enough i. unmoved p (thief i) _ _ (v .thief-call enough i);
+            };
         limits = λ enough. refl;
         answers = λ enough e. absurd (false≢true e);
       }

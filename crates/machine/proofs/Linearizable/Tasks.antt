@@ -2,10 +2,10 @@
 use mathlib.Core.Path.{_≡_, refl, ap, sym, _∙_, subst}
 use mathlib.Core.Bool.{Bool, true, false}
 use mathlib.Core.List.{List, [], _∷_, _++_, map}
-use Prim.Native.Nat.{ℕ, zero, suc, _+_, _-_, _≤_, _<_}
+use Prim.Native.Nat.{ℕ, suc, _+_, _-_, _<_}
 use native.Mathlib.Omega.{arith}
-use lib.Dec.{ltb, eqb}
-use lib.ListN.{length, getD, take, drop, List·getD-append, length-append, length-drop, length-take}
+use lib.Dec.{ltb}
+use lib.ListN.{length, take, drop, List·getD-append, length-append, length-drop, length-take}
 use lib.Seq.{drop-cons, drop-length, getD-append-seam, getD-drop, getD-take}
 use borrow.Author.Tests.{eq-eqb, ltb-false, ltb-true, ne-eqb}
 use Rattle.machine.specs.Types.{Task, Empty, Abort, Full, End}
@@ -20,7 +20,7 @@ newest-last : (l : List StoredTask) → 0 < length l → taskAt l (length l - 1)
 newest-last l some =
     let past : suc (length l - 1) ≡ length l = omega arith in
     sym (drop-cons l (length l - 1) (record { put = 0; number = 0 }) (omega arith)
-        ∙ ap (λ r. taskAt l (length l - 1) ∷ r) (ap (λ k. drop k l) past ∙ drop-length l))
+    ∙ ap (λ r. taskAt l (length l - 1) ∷ r) (ap (λ k. drop k l) past ∙ drop-length l))
 
 oldest-first : (l : List StoredTask) → 0 < length l → taskAt l 0 ∷ [] ≡ take 1 l
 oldest-first [] some = absurd (omega arith)

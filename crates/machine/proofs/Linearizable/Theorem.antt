@@ -1,25 +1,22 @@
 -- Demand 3: from the fresh machine the invariant holds at every moment of a run, and it has every part of the claim.
 use mathlib.Core.Path.{_≡_, refl, ap, sym, _∙_, subst}
-use mathlib.Core.Bool.{Bool, true, false, cond, _&&_, false≢true}
+use mathlib.Core.Bool.{Bool, true, false, cond, false≢true}
 use mathlib.Core.List.{List, [], _∷_, _++_, map}
 use Prim.Native.Nat.{ℕ, zero, suc, _+_, _-_, _≤_, _<_, zero-le}
 use native.Mathlib.Nat.{not-suc-le-zero}
 use native.Mathlib.Omega.{arith}
-use lib.Dec.{leb}
 use lib.IntN.{pos, _+ℤ_, _-ℤ_}
-use lib.ListN.{getD, length, replicate, getD-replicate}
-use lib.Seq.{take-nil}
+use lib.ListN.{getD, length, replicate}
 use borrow.Author.Tests.{eq-eqb, le-leb}
 use Rattle.machine.specs.Types.{Entry, Holder, Nobody, TheWorker, TheThief, Machine, Sizes, ThiefCall, StealLock, StealLoadHead, StealRaiseHead, StealLoadTail, StealLoadSlot, StealUnlockTask, StealRestoreHead, StealUnlockAbort, WorkerCall, PutLoadHead, PutStoreSlot, PutStoreTail, TakeStoreTail, TakeLoadHead, TakeLoadSlot, TakeLock, TakeReloadHead, TakeRestoreTail, TakeUnlockEmpty, TakeUnlockTask, TakeLoadLastSlot}
-use Rattle.machine.specs.Lists.{all, gather, upFrom, upTo}
+use Rattle.machine.specs.Lists.{all, upTo}
 use Rattle.machine.specs.Sizes.{enoughMargin, sizesInRange}
 use Rattle.machine.specs.Outcome.{isAnswer}
-use Rattle.machine.specs.Index.{indexInRange, indexOf}
+use Rattle.machine.specs.Index.{indexInRange}
 use Rattle.machine.specs.Machine.{fresh, idleThief, thiefCall, workerLoad, workerTail}
-use Rattle.machine.specs.Obey.{obey}
-use Rattle.machine.specs.PlainQueue.{PlainQueue, StoredTask, withinLimits}
-use Rattle.machine.specs.Effect.{Begun, Event, Party, worker, thief, PartyCall, Watch, callAt, eventAt, events, noCall, nothing, partyOf, watchAfter, watchFresh, watched}
-use Rattle.machine.specs.Linearizable.{Demand3, Linearizes, answering, answersTo, isNothing, noCallRuns, owes, parties, standingInSlots, stepsUp, thiefOwes, workerOwes}
+use Rattle.machine.specs.PlainQueue.{withinLimits}
+use Rattle.machine.specs.Effect.{Event, Party, worker, thief, Watch, callAt, eventAt, events, watchAfter, watchFresh, watched}
+use Rattle.machine.specs.Linearizable.{Demand3, answering, answersTo, isNothing, noCallRuns, owes, parties, standingInSlots, stepsUp, thiefOwes}
 use Rattle.machine.proofs.Laws.Tests.{both-left, both-right}
 use Rattle.machine.proofs.Laws.Lists.{all-map, all-upTo}
 use Rattle.machine.proofs.Laws.Sizes.{Bounds, bounds}
@@ -27,10 +24,10 @@ use Rattle.machine.proofs.Laws.Index.{idx, idx-as, idx-in-range, idx-mi
 use Rattle.machine.proofs.Laws.Obey.{answers-at-steps}
 use Rattle.machine.proofs.Laws.Chain.{none}
 use Rattle.machine.proofs.Account.{account-noOther, account-once}
-use Rattle.machine.proofs.Linearizable.Invariant.{AgreesOn, Exclusive, Follows, InPlace, Invariant, Sound, holds, lowered, outside, raised, stolen, taskAt, thiefBegun, workerBegun}
+use Rattle.machine.proofs.Linearizable.Invariant.{Exclusive, InPlace, Invariant, Sound, holds, lowered, outside, raised, stolen, thiefBegun, workerBegun}
 use Rattle.machine.proofs.Linearizable.Tasks.{shows-as, shows-list}
-use Rattle.machine.proofs.Linearizable.Turn.{seen-tail}
-use Rattle.machine.proofs.Linearizable.Run.{Kept, entry-keeps}
+use Rattle.machine.proofs.Linearizable.Rebuild.{seen-tail}
+use Rattle.machine.proofs.Linearizable.Run.{entry-keeps}
 
 -- ── At first ────────────────────────────────────────────────────────────────────────────────────────────────────────────────
 
@@ -49,29 +46,29 @@ fresh-sound s b =
       sizes = b;
       memory = refl;
       buffer =
-        record {
-          landed = s .start + 1;
-          seen = s .start + 1;
-          due = 0;
-          dips = 0;
-          owed = 0;
-          bound = 0;
-          tail-is = idx-of (s .start);
-          chain = none zero-le;
-          few = zero-le;
-          fits = zero-le;
-          cells = refl;
-          ranged = refl;
-          tail-ranged = ap indexInRange (idx-of (s .start)) ∙ idx-in-range (s .start + 1) ∙ le-leb (s .start + 1) 2147483649 (omega (arith, b .start-most));
-        };
+          record {
+            landed = s .start + 1;
+            seen = s .start + 1;
+            due = 0;
+            dips = 0;
+            owed = 0;
+            bound = 0;
+            tail-is = idx-of (s .start);
+            chain = none zero-le;
+            few = zero-le;
+            fits = zero-le;
+            cells = refl;
+            ranged = refl;
+            tail-ranged = ap indexInRange (idx-of (s .start)) ∙ idx-in-range (s .start + 1) ∙ le-leb (s .start + 1) 2147483649 (omega (arith, b .start-most));
+          };
       head =
-        record {
-          lo = s .start + 1;
-          head-is = idx-as (s .start + 1) (s .start + 1 + 0) (idx-of (s .start)) (omega arith);
-          holds-head = tt;
-          floor = omega arith;
-          top = omega (arith, b .start-most);
-        };
+          record {
+            lo = s .start + 1;
+            head-is = idx-as (s .start + 1) (s .start + 1 + 0) (idx-of (s .start)) (omega arith);
+            holds-head = tt;
+            floor = omega arith;
+            top = omega (arith, b .start-most);
+          };
       tail = record { holds-tail = tt; floor = omega arith; top = omega (arith, b .start-most) };
       spaced = zero-le;
       counted = zero-le;
@@ -90,7 +87,7 @@ fresh-invariant s ranged =
       sound = fresh-sound s (bounds s ranged);
       thieves = λ i. ap outside (sym (idle-at s i));
       agrees = λ enough.
-        record { count = count; sum = sum; room = room; below = zero-le; shows = λ k none. absurd (not-suc-le-zero none); unwritten = tt };
+          record { count = count; sum = sum; room = room; below = zero-le; shows = λ k none. absurd (not-suc-le-zero none); unwritten = tt };
       worker-call = λ enough. record { begun = refl; answers = refl };
       thief-call = λ enough i. record { begun = ap thiefBegun (idle-at s i); answers = ap (thiefOwes (fresh s)) (idle-at s i) };
     }
@@ -182,9 +179,9 @@ module _ {s : Sizes} {n : ℕ} {w : Watch} (v : Invariant s n w) (enough : enoug
   thief-idle i there =
       ap isNothing (sym (v .thief-call enough i .begun))
       ∙ all-upTo (λ i. isNothing (w .calls (thief i) .begun)) (s .thieves) i
-        (sym (all-map thief (λ p. isNothing (w .calls p .begun)) (λ i. refl) (upTo (s .thieves)))
-          ∙ both-right (isNothing (w .calls worker .begun)) (all (λ p. isNothing (w .calls p .begun)) (map thief (upTo (s .thieves)))) quiet)
-        (subst (λ s. i < s .thieves) (v .sizes-are) there)
+      (sym (all-map thief (λ p. isNothing (w .calls p .begun)) (λ i. refl) (upTo (s .thieves)))
+      ∙ both-right (isNothing (w .calls worker .begun)) (all (λ p. isNothing (w .calls p .begun)) (map thief (upTo (s .thieves)))) quiet)
+      (subst (λ s. i < s .thieves) (v .sizes-are) there)
 
   -- the slots from head on show the tasks that stand
   standing : map (λ t. t .number) (w .queue .tasks) ≡ standingInSlots (w .machine)
@@ -200,13 +197,13 @@ module _ {s : Sizes} {n : ℕ} {w : Watch} (v : Invariant s n w) (enough : enoug
       let head : m .head ≡ idx lo = idx-as (lo + (raised (v .inside) + stolen (v .inside))) lo (v .sound .head .head-is) (omega arith) in
       let many : seen - lo ≡ length (w .queue .tasks) = omega (arith, g .count) in
       let steps : stepsUp (workerTail m .at -ℤ m .head .at) ≡ length (w .queue .tasks) =
-          (λ j. stepsUp (seen-tail (v .sound .buffer) j .at -ℤ head j .at))
-          ∙ ap stepsUp (idx-minus seen lo (omega (arith, v .sound .head .floor)) (omega (arith, g .count)))
-          ∙ many
+      (λ j. stepsUp (seen-tail (v .sound .buffer) j .at -ℤ head j .at))
+      ∙ ap stepsUp (idx-minus seen lo (omega (arith, v .sound .head .floor)) (omega (arith, g .count)))
+      ∙ many
       in
       let from : lo + stolen (v .inside) ≡ lo = omega arith in
       let load : (k : ℕ) → workerLoad m (record { at = m .head .at +ℤ pos k }) ≡ workerLoad m (idx (lo + k)) =
-          λ k. ap (λ i. workerLoad m (record { at = i .at +ℤ pos k })) head ∙ ap (workerLoad m) (idx-plus lo k)
+      λ k. ap (λ i. workerLoad m (record { at = i .at +ℤ pos k })) head ∙ ap (workerLoad m) (idx-plus lo k)
       in
       shows-list (λ k. workerLoad m (idx k)) lo (w .queue .tasks) (shows-as (λ k. workerLoad m (idx k)) (lo + stolen (v .inside)) (w .queue .tasks) (g .shows) lo from)
       ∙ sym (λ j. map (λ k. load k j) (upTo (steps j)))
@@ -219,7 +216,7 @@ demand3 s es ranged enough short =
     let v = run-invariant s 0 (watchFresh s) es fresh in
     let answers = run-answers s enough 0 (watchFresh s) es fresh in
     let held : map (λ p. answersTo (watched (watchFresh s) es .calls p)) (parties s) ≡ map (owes (watched (watchFresh s) es .machine)) (parties s) =
-        λ j. map (λ p. owed s enough v p j) (parties s)
+    λ j. map (λ p. owed s enough v p j) (parties s)
     in
     record {
       answers = answers;

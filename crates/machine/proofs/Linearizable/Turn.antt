@@ -1,26 +1,18 @@
--- What a step has to show, and the few ways in which steps change the pending stores.
-use mathlib.Core.Path.{_≡_, refl, ap, sym, _∙_, subst}
-use mathlib.Core.Bool.{Bool, true, false, cond, _&&_}
-use mathlib.Core.List.{List, [], _∷_, _++_, map, foldl}
-use Prim.Native.Nat.{ℕ, zero, suc, _+_, _-_, _≤_, _<_}
-use native.Mathlib.Omega.{arith}
-use lib.ListN.{length, length-set}
-use Rattle.machine.specs.Types.{Done, Entry, Index, Lock, Machine, Outcome, Sizes, Store, StoreBuffer, ThiefCall, WorkerCall}
+-- What an entry has to show, of the machine and of the plain queue beside it.
+use mathlib.Core.Path.{_≡_, refl, sym, _∙_}
+use mathlib.Core.Bool.{Bool, true, false, cond, false≢true}
+use mathlib.Core.List.{List, [], _∷_, _++_, append-nil, map}
+use Prim.Native.Nat.{ℕ, _+_}
+use lib.ListN.{set}
+use Rattle.machine.specs.Types.{Done, Entry, WorkerStep, ThiefStep, Index, Lock, Machine, Outcome, Moved, StoreBuffer, ThiefCall, WorkerCall}
 use Rattle.machine.specs.Lists.{all}
 use Rattle.machine.specs.Sizes.{enoughMargin}
 use Rattle.machine.specs.Outcome.{isAnswer, isRefusal}
-use Rattle.machine.specs.StoreBuffer.{newestTail, pending, push, tailAfter}
-use Rattle.machine.specs.InRange.{storeInRange}
 use Rattle.machine.specs.Machine.{done}
 use Rattle.machine.specs.PlainQueue.{Told, PlainQueue, Reply, respond, withinLimits}
-use Rattle.machine.specs.Effect.{Begun, nothing, aPut, aTake, aSteal, Effect, none, begunBy, queueAfter, toldOf}
-use Rattle.machine.specs.Linearizable.{workerOwes}
-use Rattle.machine.proofs.Laws.Sizes.{Bounds}
-use Rattle.machine.proofs.Laws.Lists.{all-snoc}
-use Rattle.machine.proofs.Laws.Index.{idx}
-use Rattle.machine.proofs.Laws.StoreBuffer.{push-pending}
-use Rattle.machine.proofs.Laws.Chain.{Chain, chain-push, chain-raise, chain-tail}
-use Rattle.machine.proofs.Linearizable.Invariant.{AgreesOn, Pending, Sound, holds, workerBegun}
+use Rattle.machine.specs.Effect.{Begun, nothing, aPut, aTake, aSteal, Effect, none, begunBy, queueAfter, thiefEffect, toldOf, workerEffect}
+use Rattle.machine.specs.Linearizable.{thiefOwes, workerOwes}
+use Rattle.machine.proofs.Linearizable.Invariant.{AgreesOn, InPlace, Sound, holds, thiefBegun, workerBegun}
 
 -- ── A party's turn ──────────────────────────────────────────────────────────────────────────────────────────────────────────
 
@@ -41,9 +33,11 @@ begunAfter b o e = cond (isAnswer o) nothing (cond (isRefusal o) b (orElse b (be
 abbrev pub owedAfter : List Outcome → List Reply → Outcome → List Outcome
 owedAfter owed replies o = cond (isAnswer o) [] (owed ++ map (λ r. r .answer) replies)
 
--- The plain queue's replies to what it is told at an entry, where the party's call has been begun as b and owes what it owes: what is told keeps
--- the limits of n slots, an answer is the plain queue's, and what is owed afterwards is what it has answered. A holds of the queue afterwards.
-pub record Turn (n : ℕ) (b : Begun) (owed : List Outcome) (q : PlainQueue) (told : List Told) (o : Outcome) (e : Entry) (b′ : Begun) (owed′ : List Outcome) (A : PlainQueue → Type 0) : Type 0 where
+-- The plain queue's replies to what it is told at an entry, where the party's call has been begun as b and owes what it owes: what is told
+-- keeps the limits of n slots, an answer is the plain queue's, and what is owed afterwards is what it has answered. A holds of the queue
+-- afterwards.
+pub record Turn (n : ℕ) (b : Begun) (owed : List Outcome) (q : PlainQueue) (told : List Told) (o : Outcome) (e : Entry) (b′ : Begun)
+    (owed′ : List Outcome) (A : PlainQueue → Type 0) : Type 0 where
   pub replies : List Reply
   pub are : replies ≡ map (respond q) told
   pub limits : all (withinLimits n q) told ≡ true
@@ -52,9 +46,53 @@ pub record Turn (n : ℕ) (b : Begun) (owed : List Outcome) (q : PlainQueue) (to
   pub owes : owed′ ≡ owedAfter owed replies o
   pub agrees : A (queueAfter q replies)
 
--- ── An entry of the worker's ────────────────────────────────────────────────────────────────────────────────────────────────
+-- ── Turns of which the plain queue hears nothing ────────────────────────────────────────────────────────────────────────────
 
--- what the worker's entries leave alone, apart from a drain: the slots, head, memory's tail, and the thieves
+module _ {n : ℕ} {b b′ : Begun} {owed owed′ : List Outcome} {q : PlainQueue} {e : Entry} {A : PlainQueue → Type 0} where
+  -- the call begins, or goes on
+  pub moves : b′ ≡ begunAfter b Moved e → owed′ ≡ owed → A q → Turn n b owed q [] Moved e b′ owed′ A
+  moves begun owes agrees =
+      record {
+        replies = [];
+        are = refl;
+        limits = refl;
+        answers = λ e. absurd (false≢true e);
+        begun = begun;
+        owes = owes ∙ sym (append-nil owed);
+        agrees = agrees;
+      }
+
+  -- the entry is refused
+  pub stands : {o : Outcome} → isRefusal o ≡ true → isAnswer o ≡ false → b′ ≡ b → owed′ ≡ owed → A q → Turn n b owed q [] o e b′ owed′ A
+  stands refusal no-answer begun owes agrees =
+      record {
+        replies = [];
+        are = refl;
+        limits = refl;
+        answers = λ e. absurd (false≢true (sym no-answer ∙ e));
+        begun = rw (no-answer, refusal) begun;
+        owes = rw no-answer (owes ∙ sym (append-nil owed));
+        agrees = agrees;
+      }
+
+-- the call ends with the answer that it owes
+pub ends :
+    {n : ℕ} {b : Begun} {owed : List Outcome} {q : PlainQueue} {o : Outcome} {e : Entry} {A : PlainQueue → Type 0}
+    → isAnswer o ≡ true → owed ≡ o ∷ [] → A q → Turn n b owed q [] o e nothing [] A
+ends {owed = owed} answer owes agrees =
+    record {
+      replies = [];
+      are = refl;
+      limits = refl;
+      answers = λ e. append-nil owed ∙ owes;
+      begun = rw answer;
+      owes = rw answer;
+      agrees = agrees;
+    }
+
+-- ── The worker's entries, apart from a drain ────────────────────────────────────────────────────────────────────────────────
+
+-- they leave alone the slots, head, memory's tail, and the thieves
 abbrev pub worked : Machine → Lock → StoreBuffer → ℕ → Bool → WorkerCall → Machine
 worked m l b since taken c =
     record {
@@ -71,7 +109,8 @@ worked m l b since taken c =
     }
 
 -- An entry e of the worker's, which comes to d, from a sound machine and the plain queue q.
-pub record WorkerTurn {n : ℕ} {m : Machine} {c : WorkerCall} {p : ThiefCall} (v : Sound n m c p) (q : PlainQueue) (e : Entry) (effect : Outcome → Effect) (d : Done) : Type 0 where
+pub record WorkerTurn {n : ℕ} {m : Machine} {c : WorkerCall} {p : ThiefCall} (v : Sound n m c p) (q : PlainQueue) (e : Entry)
+    (effect : Outcome → Effect) (d : Done) : Type 0 where
   pub outcome : Outcome
   pub told : List Told
   pub lock : Lock
@@ -87,39 +126,58 @@ pub record WorkerTurn {n : ℕ} {m : Machine} {c : WorkerCall} {p : ThiefCall} (
   pub turn :
       AgreesOn v q
       → Turn (m .sizes .slots) (workerBegun m c) (workerOwes m c) q told outcome e
-        (workerBegun (worked m lock buffer since taken call) call)
-        (workerOwes (worked m lock buffer since taken call) call)
-        (AgreesOn sound)
+      (workerBegun (worked m lock buffer since taken call) call)
+      (workerOwes (worked m lock buffer since taken call) call)
+      (AgreesOn sound)
 
--- ── The pending stores ──────────────────────────────────────────────────────────────────────────────────────────────────────
+-- a step of its call
+abbrev pub StepTurn : {n : ℕ} {m : Machine} {c : WorkerCall} {p : ThiefCall} → Sound n m c p → PlainQueue → Done → Type 0
+StepTurn {m = m} {c = c} v q d = WorkerTurn v q WorkerStep (λ o. workerEffect o m c) d
 
-module _ {z : Sizes} {t : Index} {b : StoreBuffer} (v : Pending z t b) where
-  -- the tail as the worker loads it
-  pub seen-tail : newestTail t b ≡ idx (v .seen)
-  seen-tail = ap (λ i. newestTail i b) (v .tail-is) ∙ chain-tail (v .chain)
+-- ── A thief's entries ───────────────────────────────────────────────────────────────────────────────────────────────────────
 
-  module _ (sizes : Bounds z) (room : b .count < z .buffer) where
-    pub inside-cells : b .count < length (b .stores)
-    inside-cells = omega arith
+-- they leave alone the slots, memory's tail, the pending stores, and the worker
+abbrev pub raided : Machine → Index → Lock → ℕ → ThiefCall → Machine
+raided m h l i c =
+    record {
+      sizes = m .sizes;
+      slots = m .slots;
+      head = h;
+      tail = m .tail;
+      lock = l;
+      buffer = m .buffer;
+      since = m .since;
+      taken = m .taken;
+      worker = m .worker;
+      thieves = set (m .thieves) i (record { call = c });
+    }
 
-    -- a store more, which is a link of the chain
-    abbrev pub pushing :
-        (a : Store) (bound dip owed seen : ℕ) → v .bound ≤ bound → storeInRange (a .kind) ≡ true
-        → ((c : ℕ) → c ≤ v .owed → Chain (z .spacing) bound (v .seen) c (a ∷ []) dip owed seen)
-        → Pending z t (push a b)
-    pushing a bound dip owed seen higher ranged link =
-        record {
-          landed = v .landed;
-          seen = seen;
-          due = v .due;
-          dips = v .dips + dip;
-          owed = owed;
-          bound = bound;
-          tail-is = v .tail-is;
-          chain = rw (push-pending a b inside-cells) (chain-push link (chain-raise bound higher (v .chain)));
-          few = v .few;
-          fits = omega arith;
-          cells = length-set (b .stores) (b .count) a ∙ v .cells;
-          ranged = rw (push-pending a b inside-cells, all-snoc (λ a. storeInRange (a .kind)) (pending b) a, v .ranged) ranged;
-          tail-ranged = v .tail-ranged;
-        }
+-- An entry e of thief i, whose call is `own`, which comes to d, from a sound machine and the plain queue q.
+pub record ThiefTurn {n : ℕ} {m : Machine} {c : WorkerCall} {p : ThiefCall} (v : Sound n m c p) (q : PlainQueue) (i : ℕ) (own : ThiefCall)
+    (e : Entry) (effect : Effect) (d : Done) : Type 0 where
+  pub outcome : Outcome
+  pub told : List Told
+  pub head : Index
+  pub lock : Lock
+  pub call : ThiefCall
+  -- the call of the thief inside, afterwards
+  pub inside : ThiefCall
+  pub is : done outcome (raided m head lock i call) ≡ d
+  pub told-is : told ≡ toldIn (thiefBegun own) outcome effect
+  -- every thief is in its place, inside the lock or outside
+  pub in-place : InPlace (holds (lock .holder) i) (m .sizes .thieves) i inside call
+  pub others :
+      (j : ℕ) (other : ThiefCall) → (j ≡ i → ⊥) → InPlace (holds (m .lock .holder) j) (m .sizes .thieves) j p other
+      → InPlace (holds (lock .holder) j) (m .sizes .thieves) j inside other
+  pub sound : Sound (n + 1) (raided m head lock i call) c inside
+  pub turn :
+      enoughMargin (m .sizes) ≡ true
+      → AgreesOn v q
+      → Turn (m .sizes .slots) (thiefBegun own) (thiefOwes m own) q told outcome e
+      (thiefBegun call)
+      (thiefOwes (raided m head lock i call) call)
+      (AgreesOn sound)
+
+-- a step of its call
+abbrev pub StealTurn : {n : ℕ} {m : Machine} {c : WorkerCall} {p : ThiefCall} → Sound n m c p → PlainQueue → ℕ → ThiefCall → Done → Type 0
+StealTurn {m = m} v q i own d = ThiefTurn v q i own (ThiefStep i) (thiefEffect m own) d

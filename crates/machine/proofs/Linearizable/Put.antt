@@ -1,0 +1,200 @@
+-- Each step of a put keeps the invariant, and is answered as the plain queue answers.
+use mathlib.Core.Path.{_≡_, refl, ap, sym, _∙_}
+use mathlib.Core.Bool.{true, false, cond}
+use mathlib.Core.List.{[], _∷_}
+use Prim.Native.Nat.{ℕ, _+_, _-_, _≤_, _<_}
+use native.Mathlib.Omega.{arith}
+use lib.Dec.{eqb, leb}
+use lib.IntN.{pos, _-ℤ_}
+use lib.ListN.{length, length-append}
+use lib.Signed.{leZ}
+use borrow.Author.Tests.{eq-eqb, eqb-false, eqb-true, le-leb, leb-false, leb-true, lt-ltb, ltb-true, ne-eqb}
+use Rattle.machine.specs.Types.{Machine, Moved, Wait, Stored, Full, End, ThiefCall, WorkerCall, PutLoadHead, PutStoreSlot, PutStoreTail}
+use Rattle.machine.specs.Index.{eqZ, next, slotOf}
+use Rattle.machine.specs.StoreBuffer.{push, slotStore, tailStore}
+use Rattle.machine.specs.InRange.{storeInRange}
+use Rattle.machine.specs.Machine.{done, hasRoom, workerLoad, workerTail}
+use Rattle.machine.specs.Update.{pushed}
+use Rattle.machine.specs.PlainQueue.{toldPut, PlainQueue, joined, unchanged}
+use Rattle.machine.specs.Worker.{atEnd, isFull, putLoadHead, putStoreSlot, putStoreTail, workerAnswers, workerGoesOn}
+use Rattle.machine.specs.Effect.{aPut}
+use Rattle.machine.proofs.Laws.Tests.{decide, known}
+use Rattle.machine.proofs.Laws.Index.{idx, idx-eq, idx-full, idx-in-range, idx-next, idx-slot-in-range}
+use Rattle.machine.proofs.Laws.Chain.{between, no-store, none, past-tail, slot, up}
+use Rattle.machine.proofs.Laws.Loads.{pushed-workerLoad, pushed-workerTail, slotAfter-apart}
+use Rattle.machine.proofs.Linearizable.Invariant.{AgreesOn, Sound, head-at, raised-stolen, stolen}
+use Rattle.machine.proofs.Linearizable.Tasks.{replies-end, replies-full, replies-stored, shows-joined}
+use Rattle.machine.proofs.Linearizable.Turn.{StepTurn, moves, worked}
+use Rattle.machine.proofs.Linearizable.Rebuild.{agrees-call, inside-cells, pushed-shows, pushed-unwritten, pushes, pushing, rebuilt, recalled, recalls, refused, seen-tail}
+
+module _ {n : ℕ} {m : Machine} {p : ThiefCall} (q : PlainQueue) where
+  -- ── Step 1 ──────────────────────────────────────────────────────────────────────────────────────────────────────────────────
+
+  module _ (x : ℕ) (v : Sound n m (PutLoadHead x) p) where
+    -- its tests, as natural numbers
+
+    atEnd-is : atEnd m ≡ eqb (v .buffer .seen) 2147483648
+    atEnd-is = ap (λ i. eqZ (i .at) (pos 2147483647)) (seen-tail (v .buffer)) ∙ idx-eq (v .buffer .seen) 2147483648
+
+    isFull-is : isFull m ≡ leb (m .sizes .slots + head-at (v .head)) (v .buffer .seen + 1)
+    isFull-is =
+        (λ i. leZ (pos (m .sizes .slots) -ℤ pos 1) (seen-tail (v .buffer) i .at -ℤ v .head .head-is i .at))
+        ∙ idx-full (m .sizes .slots) (v .buffer .seen) (head-at (v .head)) (omega (arith, v .head .floor))
+
+    abbrev idle : Sound (n + 1) (worked m (m .lock) (m .buffer) (m .since) (m .taken) WorkerCall.Idle) WorkerCall.Idle p
+    idle = recalled v (m .lock) WorkerCall.Idle (record { holds-tail = tt; floor = v .tail .floor; top = v .tail .top }) (v .spaced) (v .lock)
+
+    -- the sum is the largest
+    ended : atEnd m ≡ true → StepTurn v q (workerAnswers End m)
+    ended at-end =
+        let last = eqb-true (v .buffer .seen) 2147483648 (known atEnd-is at-end) in
+        recalls v End (toldPut x false ∷ []) (m .lock) WorkerCall.Idle refl (λ i. refl) idle
+        (λ a.
+        record {
+          replies = unchanged q End ∷ [];
+          are = ap (λ r. r ∷ []) (replies-end q x false (omega (arith, a .sum)));
+          limits = rw (eq-eqb (q .sum) 2147483647 (omega (arith, a .sum)));
+          answers = λ e. refl;
+          begun = refl;
+          owes = refl;
+          agrees = agrees-call refl (a .room) a;
+        })
+
+    -- all slots but one are filled, for head is no lower than the oldest task
+    full : atEnd m ≡ false → isFull m ≡ true → StepTurn v q (workerAnswers Full m)
+    full not-ended no-room =
+        let not-last = eqb-false (v .buffer .seen) 2147483648 (known atEnd-is not-ended) in
+        let close = leb-true (m .sizes .slots + head-at (v .head)) (v .buffer .seen + 1) (known isFull-is no-room) in
+        recalls v Full (toldPut x true ∷ []) (m .lock) WorkerCall.Idle refl (λ i. refl) idle
+        (λ a.
+        record {
+          replies = unchanged q Full ∷ [];
+          are = ap (λ r. r ∷ []) (replies-full q x (λ e. not-last (omega (arith, a .sum))));
+          limits = rw (le-leb (m .sizes .slots - 1) (length (q .tasks)) (omega (arith, a .count)));
+          answers = λ e. refl;
+          begun = refl;
+          owes = refl;
+          agrees = agrees-call refl (a .room) a;
+        })
+
+    -- the slot of the tail is free, for head is at most one above lo
+    passed : atEnd m ≡ false → isFull m ≡ false → StepTurn v q (workerGoesOn (PutStoreSlot x) m)
+    passed not-ended some-room =
+        let not-last = eqb-false (v .buffer .seen) 2147483648 (known atEnd-is not-ended) in
+        let far = leb-false (m .sizes .slots + head-at (v .head)) (v .buffer .seen + 1) (known isFull-is some-room) in
+        let room : v .buffer .seen + 0 + 1 ≤ v .head .lo + m .sizes .slots = omega (arith, raised-stolen p) in
+        recalls v Moved [] (m .lock) (PutStoreSlot x) refl (λ i. refl)
+        (recalled v (m .lock) (PutStoreSlot x) (record { holds-tail = tt; floor = v .tail .floor; top = omega (arith, v .tail .top) }) (v .spaced) (v .lock))
+        (λ a. moves refl refl (agrees-call refl room a))
+
+    pub put-load-head : StepTurn v q (putLoadHead x m)
+    put-load-head = decide (StepTurn v q) (atEnd m) ended (λ not-ended. decide (StepTurn v q) (isFull m) (full not-ended) (passed not-ended))
+
+  -- ── Step 2 ──────────────────────────────────────────────────────────────────────────────────────────────────────────────────
+
+  module _ (x : ℕ) (v : Sound n m (PutStoreSlot x) p) (at : m .worker .call ≡ PutStoreSlot x) where
+    -- no task lies in the slot that is written, nor one that a thief is about to load
+    stores-slot : hasRoom m ≡ true → StepTurn v q (workerGoesOn PutStoreTail (pushed (slotStore (workerTail m) x) m))
+    stores-slot some-room =
+        let room = ltb-true (m .buffer .count) (m .sizes .buffer) some-room in
+        let cells = inside-cells (v .buffer) (v .sizes) room in
+        let seen = v .buffer .seen in
+        let lo = v .head .lo in
+        let a = slotStore (idx seen) x in
+        let bound = v .buffer .bound + (seen + 1 - v .buffer .bound) in
+        let low : seen < bound = omega arith in
+        let ranged : storeInRange (a .kind) ≡ true =
+        rw (idx-slot-in-range seen, le-leb 1 seen (omega arith), le-leb seen 2147483649 (omega arith))
+        in
+        let sound =
+        rebuilt v (m .lock) (push a (m .buffer)) (m .since) (m .taken) PutStoreTail
+        (pushing (v .buffer) (v .sizes) room a bound 0 (v .buffer .owed) seen (omega arith) ranged (λ c few. slot x low (none (omega arith))))
+        (record { holds-tail = tt; floor = v .tail .floor; top = v .tail .top })
+        (v .spaced)
+        (omega (arith, v .counted))
+        (v .lock)
+        in
+        let m′ = worked m (m .lock) (push a (m .buffer)) (m .since) (m .taken) PutStoreTail in
+        let tail : workerTail m′ ≡ idx seen = pushed-workerTail a m cells ∙ seen-tail (v .buffer) in
+        let filled : workerLoad m′ (idx seen) ≡ x =
+        pushed-workerLoad a m (idx seen) cells
+        ∙ ap (λ b. cond b x (workerLoad m (idx seen))) (eq-eqb (slotOf (m .sizes .slots) (idx seen)) (slotOf (m .sizes .slots) (idx seen)) refl)
+        in
+        pushes v Moved [] a PutStoreTail
+        (ap (λ i. done Moved (worked m (m .lock) (push (slotStore i x) (m .buffer)) (m .since) (m .taken) PutStoreTail)) (sym (seen-tail (v .buffer))))
+        refl
+        sound
+        (λ g.
+        moves {A = AgreesOn sound} (ap aPut (ap (workerLoad m′) tail ∙ filled)) refl
+        (record {
+          count = g .count;
+          sum = g .sum;
+          room = g .room;
+          below = omega (arith, g .below, g .room);
+          shows =
+              pushed-shows v room a (q .tasks) (lo + stolen p)
+              (λ k h.
+              slotAfter-apart (m .sizes .slots) lo seen (lo + stolen p + k) x _ (omega arith) (omega (arith, g .count)) (omega (arith, g .room))
+              (omega arith) (omega (arith, g .count, g .room)) (λ same. omega (arith, g .count)))
+              (g .shows);
+          unwritten = pushed-unwritten v room a bound (omega arith) (λ has. between seen x (omega (arith, g .count)) low no-store) (g .unwritten);
+        }))
+
+    pub put-store-slot : StepTurn v q (putStoreSlot x m)
+    put-store-slot = decide (StepTurn v q) (hasRoom m) stores-slot (λ e. refused v Wait at refl refl)
+
+  -- ── Step 3 ──────────────────────────────────────────────────────────────────────────────────────────────────────────────────
+
+  module _ (v : Sound n m PutStoreTail p) (at : m .worker .call ≡ PutStoreTail) where
+    -- the task in the slot of the tail joins those that stand
+    stores-tail : hasRoom m ≡ true → StepTurn v q (workerAnswers Stored (pushed (tailStore (next (workerTail m))) m))
+    stores-tail some-room =
+        let room = ltb-true (m .buffer .count) (m .sizes .buffer) some-room in
+        let cells = inside-cells (v .buffer) (v .sizes) room in
+        let seen = v .buffer .seen in
+        let lo = v .head .lo in
+        let a = tailStore (idx (seen + 1)) in
+        let x = workerLoad m (workerTail m) in
+        let ranged : storeInRange (a .kind) ≡ true = rw (idx-in-range (seen + 1)) (le-leb (seen + 1) 2147483649 (omega arith)) in
+        let sound =
+        rebuilt v (m .lock) (push a (m .buffer)) (m .since) (m .taken) WorkerCall.Idle
+        (pushing (v .buffer) (v .sizes) room a (v .buffer .bound) 0 (v .buffer .owed) (seen + 1) (omega arith) ranged
+        (λ c few. up (seen + 1) (omega arith) (none (omega arith))))
+        (record { holds-tail = tt; floor = omega arith; top = omega arith })
+        (v .spaced)
+        (omega (arith, v .counted))
+        (v .lock)
+        in
+        pushes v Stored (toldPut x false ∷ []) a WorkerCall.Idle
+        (ap (λ i. done Stored (worked m (m .lock) (push (tailStore i) (m .buffer)) (m .since) (m .taken) WorkerCall.Idle))
+        (sym (ap next (seen-tail (v .buffer)) ∙ idx-next seen)))
+        refl
+        sound
+        (λ g.
+        let below-end : q .sum ≡ 2147483647 → ⊥ = λ e. omega (arith, g .sum) in
+        let end : seen ≡ lo + stolen p + length (q .tasks) = omega (arith, g .count) in
+        record {
+          replies = joined x q ∷ [];
+          are = ap (λ r. r ∷ []) (replies-stored q x below-end);
+          limits =
+              rw (ne-eqb (q .sum) 2147483647 below-end, lt-ltb (length (q .tasks)) (m .sizes .slots) (omega (arith, g .count, g .room)));
+          answers = λ e. refl;
+          begun = refl;
+          owes = refl;
+          agrees =
+              record {
+                count = simp length-append (omega (arith, g .count));
+                sum = omega (arith, g .sum);
+                room = omega (arith, g .room);
+                below = g .below;
+                shows =
+                    shows-joined (λ k. workerLoad (pushed a m) (idx k)) (lo + stolen p) (q .tasks)
+                    (pushed-shows v room a (q .tasks) (lo + stolen p) (λ k h. refl) (g .shows))
+                    (record { put = q .stored; number = x })
+                    (ap (workerLoad m) (seen-tail (v .buffer) ∙ ap idx end) ∙ sym (pushed-workerLoad a m (idx (lo + stolen p + length (q .tasks))) cells));
+                unwritten = pushed-unwritten v room a (v .buffer .bound) (omega arith) (λ has. past-tail no-store) (g .unwritten);
+              };
+        })
+
+    pub put-store-tail : StepTurn v q (putStoreTail m)
+    put-store-tail = decide (StepTurn v q) (hasRoom m) stores-tail (λ e. refused v Wait at refl refl)

@@ -1,0 +1,221 @@
+-- The invariant, rebuilt from what an entry of the worker's changes: the call, the lock, or the pending stores by one more.
+use mathlib.Core.Path.{_≡_, refl, ap, sym, _∙_}
+use mathlib.Core.Bool.{Bool, true, false}
+use mathlib.Core.List.{List, [], _∷_, _++_}
+use Prim.Native.Nat.{ℕ, _+_, _-_, _≤_, _<_}
+use native.Mathlib.Omega.{arith}
+use lib.ListN.{length, length-set}
+use Rattle.machine.specs.Types.{Done, Entry, Index, Lock, Machine, Outcome, Sizes, Store, StoreBuffer, ThiefCall, StealLock, StealLoadHead, StealRaiseHead, StealLoadTail, StealLoadSlot, StealUnlockTask, StealRestoreHead, StealUnlockAbort, WorkerCall}
+use Rattle.machine.specs.Outcome.{isAnswer, isRefusal}
+use Rattle.machine.specs.Index.{slotOf}
+use Rattle.machine.specs.StoreBuffer.{newestTail, pending, push, slotAfter}
+use Rattle.machine.specs.InRange.{storeInRange}
+use Rattle.machine.specs.Machine.{done, workerLoad}
+use Rattle.machine.specs.Update.{pushed}
+use Rattle.machine.specs.PlainQueue.{Told, PlainQueue, StoredTask}
+use Rattle.machine.specs.Effect.{Effect}
+use Rattle.machine.specs.Linearizable.{workerOwes}
+use Rattle.machine.proofs.Laws.Lists.{all-snoc}
+use Rattle.machine.proofs.Laws.Sizes.{Bounds}
+use Rattle.machine.proofs.Laws.Index.{idx}
+use Rattle.machine.proofs.Laws.StoreBuffer.{push-pending}
+use Rattle.machine.proofs.Laws.Chain.{Chain, SlotsWithin, chain-push, chain-raise, chain-tail, slots-append}
+use Rattle.machine.proofs.Laws.Loads.{pushed-workerLoad}
+use Rattle.machine.proofs.Linearizable.Invariant.{Agrees, AgreesOn, Exclusive, Pending, Sound, Spaced, Tailing, Unwritten, asked, filling, holds, locked, lowered, stolen, workerBegun}
+use Rattle.machine.proofs.Linearizable.Tasks.{Shows, shows-load}
+use Rattle.machine.proofs.Linearizable.Turn.{Turn, WorkerTurn, stands, toldIn, worked}
+
+-- ── The pending stores ──────────────────────────────────────────────────────────────────────────────────────────────────────
+
+module _ {z : Sizes} {t : Index} {b : StoreBuffer} (v : Pending z t b) where
+  -- the tail as the worker loads it
+  pub seen-tail : newestTail t b ≡ idx (v .seen)
+  seen-tail = ap (λ i. newestTail i b) (v .tail-is) ∙ chain-tail (v .chain)
+
+  module _ (sizes : Bounds z) (room : b .count < z .buffer) where
+    pub inside-cells : b .count < length (b .stores)
+    inside-cells = omega arith
+
+    -- a store more, which is a link of the chain
+    abbrev pub pushing :
+        (a : Store) (bound dip owed seen : ℕ) → v .bound ≤ bound → storeInRange (a .kind) ≡ true
+        → ((c : ℕ) → c ≤ v .owed → Chain (z .spacing) bound (v .seen) c (a ∷ []) dip owed seen)
+        → Pending z t (push a b)
+    pushing a bound dip owed seen higher ranged link =
+        record {
+          landed = v .landed;
+          seen = seen;
+          due = v .due;
+          dips = v .dips + dip;
+          owed = owed;
+          bound = bound;
+          tail-is = v .tail-is;
+          chain = rw (push-pending a b inside-cells) (chain-push link (chain-raise bound higher (v .chain)));
+          few = v .few;
+          fits = omega arith;
+          cells = length-set (b .stores) (b .count) a ∙ v .cells;
+          ranged = rw (push-pending a b inside-cells, all-snoc (λ a. storeInRange (a .kind)) (pending b) a, v .ranged) ranged;
+          tail-ranged = v .tail-ranged;
+        }
+
+-- ── The machine ─────────────────────────────────────────────────────────────────────────────────────────────────────────────
+
+module _ {n : ℕ} {m : Machine} {c : WorkerCall} {p : ThiefCall} (v : Sound n m c p) where
+  -- a sound machine, from what an entry changes
+  abbrev pub rebuilt :
+      (l : Lock) (b : StoreBuffer) (since : ℕ) (taken : Bool) (c′ : WorkerCall) (buffer : Pending (m .sizes) (m .tail) b)
+      → Tailing (m .sizes .start) (buffer .seen) c′
+      → Spaced c′ (buffer .owed) (asked taken (m .sizes .spacing) since) (m .sizes .spacing)
+      → since ≤ n + 1
+      → Exclusive (l .holder) (locked c′) p
+      → Sound (n + 1) (worked m l b since taken c′) c′ p
+  rebuilt l b since taken c′ buffer tail spaced counted lock =
+      record {
+        sizes = v .sizes;
+        memory = v .memory;
+        buffer = buffer;
+        head = v .head;
+        tail = tail;
+        spaced = spaced;
+        counted = counted;
+        lock = lock;
+      }
+
+  -- .. where nothing changes but the call, and maybe the lock
+  abbrev pub recalled :
+      (l : Lock) (c′ : WorkerCall)
+      → Tailing (m .sizes .start) (v .buffer .seen) c′
+      → Spaced c′ (v .buffer .owed) (asked (m .taken) (m .sizes .spacing) (m .since)) (m .sizes .spacing)
+      → Exclusive (l .holder) (locked c′) p
+      → Sound (n + 1) (worked m l (m .buffer) (m .since) (m .taken) c′) c′ p
+  recalled l c′ tail spaced lock =
+      rebuilt l (m .buffer) (m .since) (m .taken) c′ (v .buffer) tail spaced (omega (arith, v .counted)) lock
+
+-- ── Machine and plain queue ─────────────────────────────────────────────────────────────────────────────────────────────────
+
+-- another call, with which the queue's tail is where it was
+pub agrees-call :
+    {n : ℕ} {load : ℕ → ℕ} {b : List Store} {c c′ : WorkerCall} {p : ThiefCall} {seen lo bound : ℕ} {q : PlainQueue}
+    → lowered c ≡ lowered c′ → seen + lowered c′ + filling c′ ≤ lo + n → Agrees n load b c p seen lo bound q → Agrees n load b c′ p seen lo bound q
+agrees-call same room a =
+    record {
+      count = omega (arith, a .count);
+      sum = omega (arith, a .sum);
+      room = room;
+      below = a .below;
+      shows = a .shows;
+      unwritten = a .unwritten;
+    }
+
+-- a pushed store that is not to the slot that a thief is about to load
+unwritten-push :
+    (p : ThiefCall) (lo bound higher : ℕ) (b : List Store) (a : Store) → bound ≤ higher → (stolen p ≡ 1 → SlotsWithin lo higher (a ∷ []))
+    → Unwritten p lo bound b → Unwritten p lo higher (b ++ (a ∷ []))
+unwritten-push ThiefCall.Idle lo bound higher b a raise link u = tt
+unwritten-push StealLock lo bound higher b a raise link u = tt
+unwritten-push StealLoadHead lo bound higher b a raise link u = tt
+unwritten-push (StealRaiseHead h) lo bound higher b a raise link u = tt
+unwritten-push (StealLoadTail h) lo bound higher b a raise link u = tt
+unwritten-push (StealLoadSlot h) lo bound higher b a raise link u = slots-append raise u (link refl)
+unwritten-push (StealUnlockTask x) lo bound higher b a raise link u = tt
+unwritten-push (StealRestoreHead h) lo bound higher b a raise link u = tt
+unwritten-push StealUnlockAbort lo bound higher b a raise link u = tt
+
+module _ {n : ℕ} {m : Machine} {c : WorkerCall} {p : ThiefCall} (v : Sound n m c p) (room : m .buffer .count < m .sizes .buffer) (a : Store) where
+  pub pushed-unwritten :
+      (higher : ℕ) → v .buffer .bound ≤ higher → (stolen p ≡ 1 → SlotsWithin (v .head .lo) higher (a ∷ []))
+      → Unwritten p (v .head .lo) (v .buffer .bound) (pending (m .buffer)) → Unwritten p (v .head .lo) higher (pending (push a (m .buffer)))
+  pushed-unwritten higher raise link u =
+      rw (push-pending a (m .buffer) (inside-cells (v .buffer) (v .sizes) room))
+      (unwritten-push p (v .head .lo) (v .buffer .bound) higher (pending (m .buffer)) a raise link u)
+
+  -- the tasks are shown as before by a store that leaves their slots
+  pub pushed-shows :
+      (l : List StoredTask) (lo : ℕ)
+      → ((k : ℕ) → k < length l
+      → slotAfter (m .sizes .slots) (slotOf (m .sizes .slots) (idx (lo + k))) (workerLoad m (idx (lo + k))) (a .kind) ≡ workerLoad m (idx (lo + k)))
+      → Shows (λ k. workerLoad m (idx k)) lo l
+      → Shows (λ k. workerLoad (pushed a m) (idx k)) lo l
+  pushed-shows l lo leaves shows =
+      shows-load (λ k. workerLoad m (idx k)) lo l shows (λ k. workerLoad (pushed a m) (idx k))
+      (λ k h. pushed-workerLoad a m (idx (lo + k)) (inside-cells (v .buffer) (v .sizes) room) ∙ leaves k h)
+
+-- ── What an entry has to show ───────────────────────────────────────────────────────────────────────────────────────────────
+
+module _ {n : ℕ} {m : Machine} {c : WorkerCall} {p : ThiefCall} (v : Sound n m c p) {q : PlainQueue} {e : Entry} {effect : Outcome → Effect} where
+  -- a refused entry
+  pub refused : (o : Outcome) → m .worker .call ≡ c → isRefusal o ≡ true → isAnswer o ≡ false → WorkerTurn v q e effect (done o m)
+  refused o at refusal no-answer =
+      let whole : worked m (m .lock) (m .buffer) (m .since) (m .taken) c ≡ m =
+      ap (worked m (m .lock) (m .buffer) (m .since) (m .taken)) (sym at)
+      in
+      record {
+        outcome = o;
+        told = [];
+        lock = m .lock;
+        buffer = m .buffer;
+        since = m .since;
+        taken = m .taken;
+        call = c;
+        is = ap (done o) whole;
+        told-is = rw refusal;
+        holder = λ i. refl;
+        sound = recalled v (m .lock) c (v .tail) (v .spaced) (v .lock);
+        turn = λ a. stands refusal no-answer (ap (λ m. workerBegun m c) whole) (ap (λ m. workerOwes m c) whole) (agrees-call refl (a .room) a);
+      }
+
+  -- an entry that changes the call, and maybe the lock
+  pub recalls :
+      (o : Outcome) (told : List Told) (l : Lock) (c′ : WorkerCall)
+      → told ≡ toldIn (workerBegun m c) o (effect o)
+      → ((i : ℕ) → holds (l .holder) i ≡ holds (m .lock .holder) i)
+      → (sound : Sound (n + 1) (worked m l (m .buffer) (m .since) (m .taken) c′) c′ p)
+      → (AgreesOn v q
+      → Turn (m .sizes .slots) (workerBegun m c) (workerOwes m c) q told o e
+      (workerBegun (worked m l (m .buffer) (m .since) (m .taken) c′) c′)
+      (workerOwes (worked m l (m .buffer) (m .since) (m .taken) c′) c′)
+      (AgreesOn sound))
+      → WorkerTurn v q e effect (done o (worked m l (m .buffer) (m .since) (m .taken) c′))
+  recalls o told l c′ told-is holder sound turn =
+      record {
+        outcome = o;
+        told = told;
+        lock = l;
+        buffer = m .buffer;
+        since = m .since;
+        taken = m .taken;
+        call = c′;
+        is = refl;
+        told-is = told-is;
+        holder = holder;
+        sound = sound;
+        turn = turn;
+      }
+
+  -- an entry that makes a store, which is a as the chain has it
+  pub pushes :
+      {d : Done} (o : Outcome) (told : List Told) (a : Store) (c′ : WorkerCall)
+      → done o (worked m (m .lock) (push a (m .buffer)) (m .since) (m .taken) c′) ≡ d
+      → told ≡ toldIn (workerBegun m c) o (effect o)
+      → (sound : Sound (n + 1) (worked m (m .lock) (push a (m .buffer)) (m .since) (m .taken) c′) c′ p)
+      → (AgreesOn v q
+      → Turn (m .sizes .slots) (workerBegun m c) (workerOwes m c) q told o e
+      (workerBegun (worked m (m .lock) (push a (m .buffer)) (m .since) (m .taken) c′) c′)
+      (workerOwes (worked m (m .lock) (push a (m .buffer)) (m .since) (m .taken) c′) c′)
+      (AgreesOn sound))
+      → WorkerTurn v q e effect d
+  pushes o told a c′ is told-is sound turn =
+      record {
+        outcome = o;
+        told = told;
+        lock = m .lock;
+        buffer = push a (m .buffer);
+        since = m .since;
+        taken = m .taken;
+        call = c′;
+        is = is;
+        told-is = told-is;
+        holder = λ i. refl;
+        sound = sound;
+        turn = turn;
+      }

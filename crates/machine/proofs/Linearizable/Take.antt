@@ -1,0 +1,277 @@
+-- Each step of a take keeps the invariant, and is answered as the plain queue answers.
+use mathlib.Core.Path.{_≡_, refl, ap, sym, _∙_, subst}
+use mathlib.Core.Bool.{true, false, _&&_, false≢true}
+use mathlib.Core.List.{List, [], _∷_}
+use Prim.Native.Nat.{ℕ, suc, _+_, _-_, _≤_, _<_}
+use native.Mathlib.Nat.{le-refl}
+use native.Mathlib.Omega.{arith}
+use lib.Dec.{leb}
+use lib.ListN.{length, length-take}
+use lib.Signed.{leZ}
+use borrow.Author.Tests.{le-leb, leb-false, leb-true, ltb-true}
+use Rattle.machine.specs.Types.{WorkerStep, Nobody, TheWorker, Index, Lock, Machine, Outcome, Moved, Wait, Task, Empty, Store, ThiefCall, WorkerCall, TakeStoreTail, TakeLoadHead, TakeLoadSlot, TakeLock, TakeReloadHead, TakeRestoreTail, TakeUnlockEmpty, TakeUnlockTask, TakeLoadLastSlot}
+use Rattle.machine.specs.Outcome.{isAnswer}
+use Rattle.machine.specs.Index.{next, previous}
+use Rattle.machine.specs.StoreBuffer.{push, tailStore}
+use Rattle.machine.specs.InRange.{storeInRange}
+use Rattle.machine.specs.Machine.{done, hasRoom, lockIsFree, nothingPending, workerLoad, workerTail}
+use Rattle.machine.specs.Update.{pushed, withLock}
+use Rattle.machine.specs.PlainQueue.{toldTake, PlainQueue, unchanged}
+use Rattle.machine.specs.Worker.{atOrAboveHead, headIsPast, takeLoadHead, takeLoadSlot, takeLock, takeReloadHead, takeRestoreTail, takeStoreTail, takeUnlockEmpty, takeUnlockTask, workerGoesOn}
+use Rattle.machine.specs.Effect.{aTake, onlyWhere, toldOf, workerEffect}
+use Rattle.machine.specs.Linearizable.{workerOwes}
+use Rattle.machine.proofs.Laws.Tests.{both-left, decide, known}
+use Rattle.machine.proofs.Laws.Index.{idx, idx-in-range, idx-le, idx-next, idx-previous}
+use Rattle.machine.proofs.Laws.Chain.{Chain, down, no-store, none, past-tail, up}
+use Rattle.machine.proofs.Linearizable.Invariant.{Agrees, AgreesOn, Exclusive, Sound, asked, filling, head-at, holds, lowered, raised, stolen, taskAt, workerBegun}
+use Rattle.machine.proofs.Linearizable.Tasks.{gives, replies-empty, replies-taken, shows-taken, taken}
+use Rattle.machine.proofs.Linearizable.Turn.{StepTurn, Turn, ends, moves, toldIn, worked}
+use Rattle.machine.proofs.Linearizable.Exclusion.{free-holds, free-quiet, working-holds, working-quiet}
+use Rattle.machine.proofs.Linearizable.Rebuild.{agrees-call, pushed-shows, pushed-unwritten, pushes, pushing, rebuilt, recalled, recalls, refused, seen-tail}
+
+-- ── What several steps do ───────────────────────────────────────────────────────────────────────────────────────────────────
+
+-- the effect of a take that finds a task: it is given the newest, which lies at the tail that the take has stored
+takes-newest :
+    {n : ℕ} {load : ℕ → ℕ} {b : List Store} {c c′ : WorkerCall} {p : ThiefCall} {seen lo bound : ℕ} {q : PlainQueue} (x : ℕ)
+    → lowered c ≡ 1 → lowered c′ ≡ 0 → filling c′ ≡ 0 → 1 ≤ seen → lo + stolen p ≤ seen → x ≡ load seen
+    → Agrees n load b c p seen lo bound q
+    → Turn n aTake [] q (toldTake ∷ []) Moved WorkerStep aTake (Task x ∷ []) (Agrees n load b c′ p seen lo bound)
+takes-newest {load = load} {p = p} {seen = seen} {lo = lo} {q = q} x low level still positive above here g =
+    let some : 0 < length (q .tasks) = omega (arith, g .count) in
+    let last : lo + stolen p + (length (q .tasks) - 1) ≡ seen = omega (arith, g .count) in
+    let number : taskAt (q .tasks) (length (q .tasks) - 1) .number ≡ x =
+    g .shows (length (q .tasks) - 1) (omega arith) ∙ ap load last ∙ sym here
+    in
+    record {
+      replies = gives q (taskAt (q .tasks) (length (q .tasks) - 1)) (taken q) ∷ [];
+      are = ap (λ r. r ∷ []) (replies-taken q some);
+      limits = refl;
+      answers = λ e. absurd (false≢true e);
+      begun = refl;
+      owes = ap (λ x. Task x ∷ []) (sym number);
+      agrees =
+          record {
+            count = simp length-take (omega (arith, g .count));
+            sum = omega (arith, g .sum, g .count);
+            room = omega (arith, g .room);
+            below = g .below;
+            shows = shows-taken load (lo + stolen p) (q .tasks) (g .shows);
+            unwritten = g .unwritten;
+          };
+    }
+
+module _ {n : ℕ} {m : Machine} {c : WorkerCall} {p : ThiefCall} (v : Sound n m c p) where
+  -- a take past its effect ends with the answer that it owes
+  answers-owed :
+      {q : PlainQueue} (o : Outcome) (l : Lock)
+      → isAnswer o ≡ true
+      → [] ≡ toldIn (workerBegun m c) o (workerEffect o m c)
+      → workerOwes m c ≡ o ∷ []
+      → lowered c ≡ 0
+      → filling c ≡ 0
+      → v .buffer .owed ≤ asked (m .taken) (m .sizes .spacing) (m .since)
+      → Exclusive (l .holder) false p
+      → ((i : ℕ) → holds (l .holder) i ≡ holds (m .lock .holder) i)
+      → StepTurn v q (done o (worked m l (m .buffer) (m .since) (m .taken) WorkerCall.Idle))
+  answers-owed o l answer told owes level still spaced lock holder =
+      recalls v o [] l WorkerCall.Idle told holder (recalled v l WorkerCall.Idle (record { holds-tail = tt; floor = omega (arith, v .tail .floor); top = omega (arith, v .tail .top) }) spaced lock)
+      (λ g. ends answer owes (agrees-call level (omega (arith, g .room)) g))
+
+  -- the tests of head, as natural numbers, for the index that the take holds
+
+  atOrAboveHead-is : (t : Index) → t ≡ idx (v .buffer .seen) → atOrAboveHead t m ≡ leb (head-at (v .head)) (v .buffer .seen)
+  atOrAboveHead-is t here = (λ i. leZ (v .head .head-is i .at) (here i .at)) ∙ idx-le (head-at (v .head)) (v .buffer .seen)
+
+  headIsPast-is : (t : Index) → t ≡ idx (v .buffer .seen) → headIsPast t m ≡ leb (v .buffer .seen + 1) (head-at (v .head))
+  headIsPast-is t here =
+      (λ i. leZ (next (here i) .at) (v .head .head-is i .at))
+      ∙ ap (λ i. leZ (i .at) (idx (head-at (v .head)) .at)) (idx-next (v .buffer .seen))
+      ∙ idx-le (v .buffer .seen + 1) (head-at (v .head))
+
+module _ {n : ℕ} {m : Machine} {p : ThiefCall} (q : PlainQueue) where
+  -- ── Step 1 ──────────────────────────────────────────────────────────────────────────────────────────────────────────────────
+
+  module _ (v : Sound n m TakeStoreTail p) (at : m .worker .call ≡ TakeStoreTail) where
+    -- the store is a dip of the chain, since no client store is due
+    link :
+        (c : ℕ) → c ≤ v .buffer .owed
+        → Chain (m .sizes .spacing) (v .buffer .bound) (v .buffer .seen) c (tailStore (idx (v .buffer .seen - 1)) ∷ []) 1 (m .sizes .spacing) (v .buffer .seen - 1)
+    link c few =
+        let seen = v .buffer .seen in
+        let positive : suc (seen - 1) ≡ seen = omega (arith, v .tail .floor) in
+        subst (λ u. Chain (m .sizes .spacing) (v .buffer .bound) u c (tailStore (idx (seen - 1)) ∷ []) 1 (m .sizes .spacing) (seen - 1)) positive
+        (down (omega (arith, v .spaced .0)) (none (le-refl (m .sizes .spacing))))
+
+    lowers : hasRoom m ≡ true → StepTurn v q (workerGoesOn (TakeLoadHead (previous (workerTail m))) (pushed (tailStore (previous (workerTail m))) m))
+    lowers some-room =
+        let room = ltb-true (m .buffer .count) (m .sizes .buffer) some-room in
+        let seen = v .buffer .seen in
+        let a = tailStore (idx (seen - 1)) in
+        let ranged : storeInRange (a .kind) ≡ true = rw (idx-in-range (seen - 1)) (le-leb (seen - 1) 2147483649 (omega arith)) in
+        let lower : idx (seen - 1) ≡ previous (workerTail m) = sym (ap previous (seen-tail (v .buffer)) ∙ idx-previous seen (omega arith)) in
+        let sound =
+        rebuilt v (m .lock) (push a (m .buffer)) (m .since) (m .taken) (TakeLoadHead (idx (seen - 1)))
+        (pushing (v .buffer) (v .sizes) room a (v .buffer .bound) 1 (m .sizes .spacing) (seen - 1) (omega arith) ranged link)
+        (record { holds-tail = refl; floor = omega arith; top = omega arith })
+        (omega (arith, v .spaced .1))
+        (omega (arith, v .counted))
+        (v .lock)
+        in
+        pushes v Moved [] a (TakeLoadHead (idx (seen - 1)))
+        (ap (λ i. done Moved (worked m (m .lock) (push (tailStore i) (m .buffer)) (m .since) (m .taken) (TakeLoadHead i))) lower)
+        refl
+        sound
+        (λ g.
+        moves {A = AgreesOn sound} refl refl
+        (record {
+          count = omega (arith, g .count);
+          sum = omega (arith, g .sum);
+          room = omega (arith, g .room);
+          below = g .below;
+          shows = pushed-shows v room a (q .tasks) (v .head .lo + stolen p) (λ k h. refl) (g .shows);
+          unwritten = pushed-unwritten v room a (v .buffer .bound) (omega arith) (λ has. past-tail no-store) (g .unwritten);
+        }))
+
+    pub take-store-tail : StepTurn v q (takeStoreTail m)
+    take-store-tail = decide (StepTurn v q) (hasRoom m) lowers (λ e. refused v Wait at refl refl)
+
+  -- ── Step 2 ──────────────────────────────────────────────────────────────────────────────────────────────────────────────────
+
+  module _ (t : Index) (v : Sound n m (TakeLoadHead t) p) where
+    -- the effect goes by the worker's tail, which is t
+    same-test : leZ (m .head .at) (workerTail m .at) ≡ atOrAboveHead t m
+    same-test = ap (λ i. leZ (m .head .at) (i .at)) (seen-tail (v .buffer) ∙ sym (v .tail .holds-tail))
+
+    takes : atOrAboveHead t m ≡ true → StepTurn v q (workerGoesOn (TakeLoadSlot t) m)
+    takes found =
+        let above = leb-true (head-at (v .head)) (v .buffer .seen) (known (atOrAboveHead-is v t (v .tail .holds-tail)) found) in
+        recalls v Moved (toldTake ∷ []) (m .lock) (TakeLoadSlot t)
+        (ap (λ b. toldOf aTake (onlyWhere b false)) (sym (same-test ∙ found)))
+        (λ i. refl)
+        (recalled v (m .lock) (TakeLoadSlot t) (record { holds-tail = v .tail .holds-tail; floor = omega arith; top = omega arith }) (v .spaced) (v .lock))
+        (λ g. takes-newest (workerLoad m t) refl refl refl (omega arith) (omega arith) (ap (workerLoad m) (v .tail .holds-tail)) g)
+
+    -- not yet decided
+    goes-to-lock : atOrAboveHead t m ≡ false → StepTurn v q (workerGoesOn (TakeLock t) m)
+    goes-to-lock below =
+        recalls v Moved [] (m .lock) (TakeLock t)
+        (ap (λ b. toldOf aTake (onlyWhere b false)) (sym (same-test ∙ below)))
+        (λ i. refl)
+        (recalled v (m .lock) (TakeLock t) (record { holds-tail = v .tail .holds-tail; floor = v .tail .floor; top = v .tail .top }) (v .spaced) (v .lock))
+        (λ g. moves refl refl (agrees-call refl (g .room) g))
+
+    pub take-load-head : StepTurn v q (takeLoadHead t m)
+    take-load-head = decide (StepTurn v q) (atOrAboveHead t m) takes goes-to-lock
+
+  -- ── Step 3 without the lock, and step 6 after it ────────────────────────────────────────────────────────────────────────────
+
+  pub take-load-slot : (t : Index) (v : Sound n m (TakeLoadSlot t) p) → StepTurn v q (takeLoadSlot t m)
+  take-load-slot t v = answers-owed v (Task (workerLoad m t)) (m .lock) refl refl refl refl refl (v .spaced) (v .lock) (λ i. refl)
+
+  pub take-load-last-slot : (t : Index) (v : Sound n m (TakeLoadLastSlot t) p) → StepTurn v q (takeLoadSlot t m)
+  take-load-last-slot t v = answers-owed v (Task (workerLoad m t)) (m .lock) refl refl refl refl refl (v .spaced) (v .lock) (λ i. refl)
+
+  -- ── Step 3 with the lock ────────────────────────────────────────────────────────────────────────────────────────────────────
+
+  module _ (t : Index) (v : Sound n m (TakeLock t) p) (at : m .worker .call ≡ TakeLock t) where
+    locks : (lockIsFree m && nothingPending m) ≡ true → StepTurn v q (workerGoesOn (TakeReloadHead t) (withLock TheWorker m))
+    locks met =
+        let free = both-left (lockIsFree m) (nothingPending m) met in
+        let mine : Lock = record { holder = TheWorker } in
+        recalls v Moved [] mine (TakeReloadHead t) refl (λ i. free-holds (m .lock .holder) i free)
+        (recalled v mine (TakeReloadHead t) (record { holds-tail = v .tail .holds-tail; floor = v .tail .floor; top = v .tail .top }) (v .spaced) (refl, free-quiet (m .lock .holder) false p free (v .lock) .1))
+        (λ g. moves refl refl (agrees-call refl (g .room) g))
+
+    pub take-lock : StepTurn v q (takeLock t m)
+    take-lock = decide (StepTurn v q) (lockIsFree m && nothingPending m) locks (λ e. refused v Wait at refl refl)
+
+  -- ── Step 4 ──────────────────────────────────────────────────────────────────────────────────────────────────────────────────
+
+  module _ (t : Index) (v : Sound n m (TakeReloadHead t) p) where
+    -- no thief is inside, so head is the oldest task's index
+    alone : p ≡ ThiefCall.Idle
+    alone = working-quiet (m .lock .holder) p (v .lock)
+
+    finds-none : headIsPast t m ≡ true → StepTurn v q (workerGoesOn (TakeRestoreTail t) m)
+    finds-none past =
+        let above = leb-true (v .buffer .seen + 1) (head-at (v .head)) (known (headIsPast-is v t (v .tail .holds-tail)) past) in
+        recalls v Moved (toldTake ∷ []) (m .lock) (TakeRestoreTail t) refl (λ i. refl)
+        (recalled v (m .lock) (TakeRestoreTail t) (record { holds-tail = v .tail .holds-tail; floor = v .tail .floor; top = v .tail .top }) (v .spaced) (v .lock))
+        (λ g.
+        record {
+          replies = unchanged q Empty ∷ [];
+          are = ap (λ r. r ∷ []) (replies-empty q (omega (arith, g .count, ap raised alone, ap stolen alone)));
+          limits = refl;
+          answers = λ e. absurd (false≢true e);
+          begun = refl;
+          owes = refl;
+          agrees = agrees-call refl (g .room) g;
+        })
+
+    takes-last : headIsPast t m ≡ false → StepTurn v q (workerGoesOn (TakeUnlockTask t) m)
+    takes-last not-past =
+        let above = leb-false (v .buffer .seen + 1) (head-at (v .head)) (known (headIsPast-is v t (v .tail .holds-tail)) not-past) in
+        recalls v Moved (toldTake ∷ []) (m .lock) (TakeUnlockTask t) refl (λ i. refl)
+        (recalled v (m .lock) (TakeUnlockTask t) (record { holds-tail = v .tail .holds-tail; floor = omega arith; top = omega arith }) (v .spaced) (v .lock))
+        (λ g. takes-newest (workerLoad m t) refl refl refl (omega arith) (omega arith) (ap (workerLoad m) (v .tail .holds-tail)) g)
+
+    pub take-reload-head : StepTurn v q (takeReloadHead t m)
+    take-reload-head = decide (StepTurn v q) (headIsPast t m) finds-none takes-last
+
+  -- ── Step 5 where the task is gone ───────────────────────────────────────────────────────────────────────────────────────────
+
+  module _ (t : Index) (v : Sound n m (TakeRestoreTail t) p) (at : m .worker .call ≡ TakeRestoreTail t) where
+    restores : hasRoom m ≡ true → StepTurn v q (workerGoesOn TakeUnlockEmpty (pushed (tailStore (next t)) m))
+    restores some-room =
+        let room = ltb-true (m .buffer .count) (m .sizes .buffer) some-room in
+        let seen = v .buffer .seen in
+        let a = tailStore (idx (seen + 1)) in
+        let ranged : storeInRange (a .kind) ≡ true = rw (idx-in-range (seen + 1)) (le-leb (seen + 1) 2147483649 (omega arith)) in
+        let sound =
+        rebuilt v (m .lock) (push a (m .buffer)) (m .since) (m .taken) TakeUnlockEmpty
+        (pushing (v .buffer) (v .sizes) room a (v .buffer .bound) 0 (v .buffer .owed) (seen + 1) (omega arith) ranged
+        (λ c few. up (seen + 1) (omega arith) (none (omega arith))))
+        (record { holds-tail = tt; floor = omega arith; top = omega arith })
+        (v .spaced)
+        (omega (arith, v .counted))
+        (v .lock)
+        in
+        pushes v Moved [] a TakeUnlockEmpty
+        (ap (λ i. done Moved (worked m (m .lock) (push (tailStore i) (m .buffer)) (m .since) (m .taken) TakeUnlockEmpty))
+        (sym (ap next (v .tail .holds-tail) ∙ idx-next seen)))
+        refl
+        sound
+        (λ g.
+        moves {A = AgreesOn sound} refl refl
+        (record {
+          count = omega (arith, g .count);
+          sum = omega (arith, g .sum);
+          room = omega (arith, g .room);
+          below = g .below;
+          shows = pushed-shows v room a (q .tasks) (v .head .lo + stolen p) (λ k h. refl) (g .shows);
+          unwritten = pushed-unwritten v room a (v .buffer .bound) (omega arith) (λ has. past-tail no-store) (g .unwritten);
+        }))
+
+    pub take-restore-tail : StepTurn v q (takeRestoreTail t m)
+    take-restore-tail = decide (StepTurn v q) (hasRoom m) restores (λ e. refused v Wait at refl refl)
+
+  -- ── Unlocking: step 6 where the task is gone, step 5 where it is still there ────────────────────────────────────────────────
+
+  pub take-unlock-empty : (v : Sound n m TakeUnlockEmpty p) → m .worker .call ≡ TakeUnlockEmpty → StepTurn v q (takeUnlockEmpty m)
+  take-unlock-empty v at =
+      decide (StepTurn v q) (nothingPending m)
+      (λ e.
+      answers-owed v Empty (record { holder = Nobody }) refl refl refl refl refl (v .spaced)
+      (refl, working-quiet (m .lock .holder) p (v .lock))
+      (λ i. working-holds (m .lock .holder) i p (v .lock)))
+      (λ e. refused v Wait at refl refl)
+
+  pub take-unlock-task : (t : Index) (v : Sound n m (TakeUnlockTask t) p) → m .worker .call ≡ TakeUnlockTask t → StepTurn v q (takeUnlockTask t m)
+  take-unlock-task t v at =
+      decide (StepTurn v q) (nothingPending m)
+      (λ e.
+      recalls v Moved [] (record { holder = Nobody }) (TakeLoadLastSlot t) refl (λ i. working-holds (m .lock .holder) i p (v .lock))
+      (recalled v (record { holder = Nobody }) (TakeLoadLastSlot t) (record { holds-tail = v .tail .holds-tail; floor = v .tail .floor; top = v .tail .top }) (v .spaced) (refl, working-quiet (m .lock .holder) p (v .lock)))
+      (λ g. moves refl refl (agrees-call refl (g .room) g)))
+      (λ e. refused v Wait at refl refl)
