@@ -3,8 +3,12 @@ use mathlib.Core.Path.{_≡_, refl}
 use mathlib.Core.Bool.{true}
 use Rattle.machine.specs.Lists.{all}
 use Rattle.machine.specs.InRange.{inRange}
-use Rattle.machine.specs.Rehearsals.{holds, rehearsals}
+use Rattle.machine.specs.Rehearsals.{everyNumberShown, holds, rehearsals}
 
 pub rehearsals-hold : all holds rehearsals ≡ true
 unfolding inRange
 rehearsals-hold = refl
+
+-- and it shows every number that an entry can come to
+pub every-number-shown : everyNumberShown ≡ true
+every-number-shown = refl

@@ -4,11 +4,11 @@
 use mathlib.Core.Bool.{Bool, true, not, _&&_}
 use mathlib.Core.List.{List, [], _∷_, _++_}
 use Prim.Native.Nat.{ℕ, _-_}
-use lib.Dec.{eqb}
+use lib.Dec.{eqb, ltb}
 use lib.IntN.{ℤ, pos, negsuc}
 use lib.ListN.{length, replicate}
 use Rattle.machine.specs.Types.{Entry, Drain, ClientStore, BeginPut, BeginTake, WorkerStep, BeginSteal, ThiefStep, Machine, Outcome, Moved, Place, Early, Wait, Stored, Task, Empty, Abort, Full, End, Sizes, PutStoreSlot, PutStoreTail}
-use Rattle.machine.specs.Lists.{all, gather, upFrom}
+use Rattle.machine.specs.Lists.{all, gather, occurrences, upFrom}
 use Rattle.machine.specs.Sizes.{neededMargin}
 use Rattle.machine.specs.Outcome.{numberOf, valueOf}
 use Rattle.machine.specs.Index.{eqZ}
@@ -71,6 +71,14 @@ entryIn (tasksStand n) = []
 
 abbrev pub entriesIn : List Line → List Entry
 entriesIn l = gather entryIn l
+
+-- the number of the outcome in a line
+abbrev pub numberIn : Line → List ℕ
+numberIn (does e o) = numberOf o ∷ []
+numberIn (headIs z) = []
+numberIn (tailIs z) = []
+numberIn (countIs n) = []
+numberIn (tasksStand n) = []
 
 -- ── Words for stories ───────────────────────────────────────────────────────────────────────────────────────────────────────
 
@@ -185,6 +193,10 @@ m9 =
 abbrev pub exampleLines : List Line
 exampleLines = does (BeginPut 7) Moved ∷ workerMoves 2 ++ does WorkerStep Wait ∷ drains 1 ++ workerGets Stored
 
+-- a put's two stores, in their order: the task is in memory before the tail shows it
+abbrev pub slotBeforeTail : List Line
+slotBeforeTail = puts 1 ++ drains 1 ++ tailIs (pos 0) ∷ drains 1 ++ tailIs (pos 1) ∷ []
+
 -- "Broken thread", the margin rounded down: 17 takes are pending at once, with a client store between each two, and 16 is one short
 abbrev pub seventeenTakesThenSteal : Outcome → List Line
 seventeenTakesThenSteal o = filled 17 ++ takes 17 ++ gather (λ k. clientStores 1 ++ takes (17 - k)) (upFrom 1 16) ++ steals o
@@ -261,6 +273,7 @@ stories =
     ∷ story (sizes 4 4 1 2 1 0) m8
     ∷ story (sizes 4 2 0 2 1 0) m9
     ∷ story (sizes 4 1 0 1 1 0) exampleLines
+    ∷ story (sizes 4 2 0 2 1 0) slotBeforeTail
     ∷ story (sizes 32 33 1 16 1 0) (seventeenTakesThenSteal (Task 1))
     ∷ story (sizes 32 33 1 17 1 0) (seventeenTakesThenSteal Abort)
     ∷ story (sizes 2 2 1 1 1 0) slotAboutToBeLoaded
@@ -289,3 +302,16 @@ brinks =
 
 abbrev pub rehearsals : List Row
 rehearsals = m1 ++ stories ++ brinks
+
+-- ── Every number ────────────────────────────────────────────────────────────────────────────────────────────────────────────
+
+-- the numbers of the outcomes that a row shows
+abbrev pub numbersIn : Row → List ℕ
+numbersIn (margin b s n) = []
+numbersIn (story s l) = gather numberIn l
+numbersIn (brink m e o) = numberOf o ∷ []
+
+-- each number that an entry can come to is in the table
+abbrev pub everyNumberShown : Bool
+everyNumberShown =
+    all (λ n. ltb 0 (occurrences n (gather numbersIn rehearsals))) (0 ∷ 5 ∷ 6 ∷ 7 ∷ 16 ∷ 17 ∷ 18 ∷ 19 ∷ 20 ∷ 21 ∷ [])
