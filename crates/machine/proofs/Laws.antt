@@ -3,7 +3,6 @@ pub mod Sizes
 pub mod Tests
 pub mod Sums
 pub mod StoreBuffer
-pub mod Refusals
 pub mod Obey
 pub mod PlainQueue
 pub mod Index

@@ -14,6 +14,7 @@ pub mod Worker
 pub mod Thief
 pub mod Drain
 pub mod Run
+pub mod Account
 pub mod Theorem
 pub mod Watched
 pub mod Rehearsed

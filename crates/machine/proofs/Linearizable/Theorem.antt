@@ -23,7 +23,7 @@ use Rattle.machine.proofs.Laws.Sizes.{Bounds, bounds}
 use Rattle.machine.proofs.Laws.Index.{idx, idx-as, idx-in-range, idx-minus, idx-of, idx-plus}
 use Rattle.machine.proofs.Laws.Obey.{answers-at-steps}
 use Rattle.machine.proofs.Laws.Chain.{none}
-use Rattle.machine.proofs.Account.{account-noOther, account-once}
+use Rattle.machine.proofs.Linearizable.Account.{account-noOther, account-once}
 use Rattle.machine.proofs.Linearizable.Invariant.{Exclusive, InPlace, Invariant, Sound, holds, lowered, outside, raised, stolen, thiefBegun, workerBegun}
 use Rattle.machine.proofs.Linearizable.Tasks.{shows-as, shows-list}
 use Rattle.machine.proofs.Linearizable.Rebuild.{seen-tail}
