@@ -12,6 +12,7 @@ pub mod Put
 pub mod Take
 pub mod Worker
 pub mod Thief
+pub mod Owed
 pub mod Drain
 pub mod Run
 pub mod Account

@@ -137,8 +137,10 @@ idx-full n t h some =
 pub idx-slot : (n k : ℕ) → 1 ≤ k → slotOf n (idx k) ≡ (k - 1) % n
 idx-slot n k some = rw (subℕ-pos k 1 some)
 
-pub idx-slot-below : (n k : ℕ) → 1 ≤ n → 1 ≤ k → slotOf n (idx k) < n
-idx-slot-below n k slots some = rw (idx-slot n k some) (mod-lt (k - 1) slots)
+-- .. and of any: one of the slots
+pub idx-slot-below : (n k : ℕ) → 1 ≤ n → slotOf n (idx k) < n
+idx-slot-below n zero slots = omega arith
+idx-slot-below n (suc k) slots = rw (idx-slot n (suc k) (omega arith)) (mod-lt (suc k - 1) slots)
 
 pub idx-in-range : (k : ℕ) → indexInRange (idx k) ≡ leb k 2147483649
 idx-in-range k = rw (idx-le 0 k, le-leb 0 k zero-le) (idx-le k 2147483649)

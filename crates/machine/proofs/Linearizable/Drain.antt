@@ -1,27 +1,27 @@
 -- A drain keeps the invariant: the oldest store of the chain lands, and nothing changes that the worker loads, or that a thief is about to load.
-use mathlib.Core.Path.{_≡_, refl, ap, sym, _∙_, subst}
-use mathlib.Core.Bool.{true, _&&_, false≢true}
-use mathlib.Core.List.{List, [], _∷_}
+use mathlib.Core.Path.{_≡_, ap, sym, _∙_, subst}
+use mathlib.Core.Bool.{true, _&&_}
+use mathlib.Core.List.{List, _∷_}
 use Prim.Native.Nat.{ℕ, _+_, _-_, _≤_, _<_}
 use native.Mathlib.Omega.{arith}
 use lib.ListN.{length, drop, length-append, length-drop, length-take}
-use Rattle.machine.specs.Types.{Index, Machine, Sizes, Slot, Store, StoreBuffer, StoreKind, Client, Tail, ThiefCall, StealLock, StealLoadHead, StealRaiseHead, StealLoadTail, StealLoadSlot, StealUnlockTask, StealRestoreHead, StealUnlockAbort, Task, WorkerCall, PutLoadHead, PutStoreSlot, PutStoreTail, TakeStoreTail, TakeLoadHead, TakeLoadSlot, TakeLock, TakeReloadHead, TakeRestoreTail, TakeUnlockEmpty, TakeUnlockTask, TakeLoadLastSlot}
+use Rattle.machine.specs.Types.{Index, Machine, Sizes, Slot, Store, StoreBuffer, StoreKind, Client, Tail, ThiefCall, StealLock, StealLoadHead, StealRaiseHead, StealLoadTail, StealLoadSlot, StealUnlockTask, StealRestoreHead, StealUnlockAbort, WorkerCall}
 use Rattle.machine.specs.Lists.{all}
 use Rattle.machine.specs.Index.{indexInRange, slotOf}
 use Rattle.machine.specs.StoreBuffer.{dropOldest, oldest, pending, tailAfter}
 use Rattle.machine.specs.InRange.{storeInRange}
 use Rattle.machine.specs.Machine.{memoryLoad, workerLoad, workerTail}
 use Rattle.machine.specs.PlainQueue.{PlainQueue}
-use Rattle.machine.specs.Effect.{aPut}
-use Rattle.machine.specs.Linearizable.{thiefOwes, workerOwes}
+use Rattle.machine.specs.Linearizable.{workerOwes}
 use Rattle.machine.proofs.Laws.Tests.{both-left, both-right}
 use Rattle.machine.proofs.Laws.Sizes.{Bounds}
 use Rattle.machine.proofs.Laws.Index.{idx, idx-slot-below}
 use Rattle.machine.proofs.Laws.StoreBuffer.{dropOldest-pending, pending-oldest, slotsAfter-length, slotsAfter-slotAfter}
 use Rattle.machine.proofs.Laws.Chain.{Chain, Landed, SlotsWithin, chain-land, slots-land}
 use Rattle.machine.proofs.Laws.Loads.{drained, drained-workerLoad, drained-workerTail, slots-leave-one}
-use Rattle.machine.proofs.Linearizable.Invariant.{AgreesOn, Pending, Sound, Unwritten, outside, stolen, workerBegun}
+use Rattle.machine.proofs.Linearizable.Invariant.{AgreesOn, HoldsHead, Pending, Sound, Unwritten, stolen, workerBegun}
 use Rattle.machine.proofs.Linearizable.Tasks.{shows-load}
+use Rattle.machine.proofs.Linearizable.Owed.{workerBegun-same, workerOwes-same}
 use Rattle.machine.proofs.Linearizable.Rebuild.{seen-tail}
 
 pub tail-in-range : (t : Index) (k : StoreKind) → indexInRange t ≡ true → storeInRange k ≡ true → indexInRange (tailAfter t k) ≡ true
@@ -63,7 +63,7 @@ module _ {z : Sizes} {t : Index} {b : StoreBuffer} (v : Pending z t b) (sizes : 
         tail-ranged = tail-in-range t (oldest b .kind) (v .tail-ranged) (both-left (storeInRange (oldest b .kind)) _ all-ranged);
       }
 
--- ── What the calls have to load ─────────────────────────────────────────────────────────────────────────────────────────────
+-- ── The machine ─────────────────────────────────────────────────────────────────────────────────────────────
 
 unwritten-lands : (p : ThiefCall) (lo bound : ℕ) (a : Store) (b : List Store) → Unwritten p lo bound (a ∷ b) → Unwritten p lo bound b
 unwritten-lands ThiefCall.Idle lo bound a b u = tt
@@ -80,14 +80,10 @@ module _ {n : ℕ} {m : Machine} {c : WorkerCall} {p : ThiefCall} (v : Sound n m
   same-tail : workerTail (drained m) ≡ workerTail m
   same-tail = drained-workerTail m some (within-cells (v .buffer) (v .sizes) some)
 
-  same-load : (k : ℕ) → 1 ≤ k → workerLoad (drained m) (idx k) ≡ workerLoad m (idx k)
-  same-load k positive =
+  same-load : (k : ℕ) → workerLoad (drained m) (idx k) ≡ workerLoad m (idx k)
+  same-load k =
       drained-workerLoad m some (within-cells (v .buffer) (v .sizes) some) (idx k)
-      (omega (arith, idx-slot-below (m .sizes .slots) k (omega (arith, v .sizes .slots-least)) positive, v .memory, v .sizes .slots-most))
-
-  -- .. of the index that the worker's call holds
-  same-held : (t : Index) → t ≡ idx (v .buffer .seen) → 1 ≤ v .buffer .seen → workerLoad (drained m) t ≡ workerLoad m t
-  same-held t here positive = ap (workerLoad (drained m)) here ∙ same-load (v .buffer .seen) positive ∙ ap (workerLoad m) (sym here)
+      (omega (arith, idx-slot-below (m .sizes .slots) k (omega (arith, v .sizes .slots-least)), v .memory, v .sizes .slots-most))
 
   abbrev pub drained-sound : Sound (n + 1) (drained m) c p
   drained-sound =
@@ -110,74 +106,34 @@ module _ {n : ℕ} {m : Machine} {c : WorkerCall} {p : ThiefCall} (v : Sound n m
         room = g .room;
         below = g .below;
         shows = shows-load (λ k. workerLoad m (idx k)) (v .head .lo + stolen p) (q .tasks) (g .shows) (λ k. workerLoad (drained m) (idx k))
-            (λ k h. same-load (v .head .lo + stolen p + k) (omega (arith, v .head .floor)));
+            (λ k h. same-load (v .head .lo + stolen p + k));
         unwritten = rw (dropOldest-pending (m .buffer) some (within-cells (v .buffer) (v .sizes) some))
             (unwritten-lands p (v .head .lo) (v .buffer .bound) (oldest (m .buffer)) (drop 1 (pending (m .buffer)))
             (subst (Unwritten p (v .head .lo) (v .buffer .bound)) (first (v .buffer) (v .sizes) some) (g .unwritten)));
       }
 
-module _ {n : ℕ} {m : Machine} {p : ThiefCall} (some : 0 < m .buffer .count) where
-  pub drained-begun : (c : WorkerCall) (v : Sound n m c p) → workerBegun (drained m) c ≡ workerBegun m c
-  drained-begun WorkerCall.Idle v = refl
-  drained-begun (PutLoadHead x) v = refl
-  drained-begun (PutStoreSlot x) v = refl
-  drained-begun PutStoreTail v =
-      ap aPut (ap (workerLoad (drained m)) (same-tail v some) ∙ same-held v some (workerTail m) (seen-tail (v .buffer)) (omega (arith, v .tail .floor)))
-  drained-begun TakeStoreTail v = refl
-  drained-begun (TakeLoadHead t) v = refl
-  drained-begun (TakeLoadSlot t) v = refl
-  drained-begun (TakeLock t) v = refl
-  drained-begun (TakeReloadHead t) v = refl
-  drained-begun (TakeRestoreTail t) v = refl
-  drained-begun TakeUnlockEmpty v = refl
-  drained-begun (TakeUnlockTask t) v = refl
-  drained-begun (TakeLoadLastSlot t) v = refl
+  -- ── What the calls were begun as, and what they are about to load ───────────────────────────────────────────────────────────
 
-  pub drained-owes : (c : WorkerCall) (v : Sound n m c p) → workerOwes (drained m) c ≡ workerOwes m c
-  drained-owes WorkerCall.Idle v = refl
-  drained-owes (PutLoadHead x) v = refl
-  drained-owes (PutStoreSlot x) v = refl
-  drained-owes PutStoreTail v = refl
-  drained-owes TakeStoreTail v = refl
-  drained-owes (TakeLoadHead t) v = refl
-  drained-owes (TakeLoadSlot t) v = ap (λ x. Task x ∷ []) (same-held v some t (v .tail .holds-tail) (omega (arith, v .tail .floor)))
-  drained-owes (TakeLock t) v = refl
-  drained-owes (TakeReloadHead t) v = refl
-  drained-owes (TakeRestoreTail t) v = refl
-  drained-owes TakeUnlockEmpty v = refl
-  drained-owes (TakeUnlockTask t) v = ap (λ x. Task x ∷ []) (same-held v some t (v .tail .holds-tail) (omega (arith, v .tail .floor)))
-  drained-owes (TakeLoadLastSlot t) v = ap (λ x. Task x ∷ []) (same-held v some t (v .tail .holds-tail) (omega (arith, v .tail .floor)))
+  pub drained-begun : workerBegun m c ≡ workerBegun (drained m) c
+  drained-begun =
+      workerBegun-same m (drained m) (v .buffer .seen) (sym (same-load (v .buffer .seen))) c (seen-tail (v .buffer)) (same-tail ∙ seen-tail (v .buffer))
 
-module _ {n : ℕ} {m : Machine} {c : WorkerCall} (some : 0 < m .buffer .count) where
-  -- what the thief inside is about to load
-  pub drained-owes-inside : (p : ThiefCall) (v : Sound n m c p) (q : PlainQueue) → AgreesOn v q → thiefOwes (drained m) p ≡ thiefOwes m p
-  drained-owes-inside ThiefCall.Idle v q g = refl
-  drained-owes-inside StealLock v q g = refl
-  drained-owes-inside StealLoadHead v q g = refl
-  drained-owes-inside (StealRaiseHead h) v q g = refl
-  drained-owes-inside (StealLoadTail h) v q g = refl
-  drained-owes-inside (StealLoadSlot h) v q g =
-      let n = m .sizes .slots in
+  pub drained-owes : workerOwes m c ≡ workerOwes (drained m) c
+  drained-owes = workerOwes-same m (drained m) (v .buffer .seen) (sym (same-load (v .buffer .seen))) c (v .tail .holds-tail)
+
+  -- no store that lands is to the slot that the thief inside has stolen and not loaded
+  pub drained-stolen : (q : PlainQueue) (h : Index) → p ≡ StealLoadSlot h → AgreesOn v q → memoryLoad (drained m) h ≡ memoryLoad m h
+  drained-stolen q h inside g =
+      let slots = m .sizes .slots in
       let lo = v .head .lo in
-      let there = idx-slot-below n lo (omega (arith, v .sizes .slots-least)) (omega (arith, v .head .floor)) in
-      let load : memoryLoad (drained m) (idx lo) ≡ memoryLoad m (idx lo) =
-      slotsAfter-slotAfter n (slotOf n (idx lo)) (m .slots) (oldest (m .buffer) .kind) (omega (arith, v .memory, v .sizes .slots-most))
-      ∙ slots-leave-one n lo (memoryLoad m (idx lo)) (omega (arith, v .head .floor)) (g .below)
-      (subst (SlotsWithin lo (v .buffer .bound)) (first (v .buffer) (v .sizes) some) (g .unwritten))
+      let here : h ≡ idx lo = subst (λ p. HoldsHead p lo) inside (v .head .holds-head) in
+      let above : SlotsWithin lo (v .buffer .bound) (oldest (m .buffer) ∷ drop 1 (pending (m .buffer))) =
+      subst (SlotsWithin lo (v .buffer .bound)) (first (v .buffer) (v .sizes) some)
+      (subst (λ p. Unwritten p lo (v .buffer .bound) (pending (m .buffer))) inside (g .unwritten))
       in
-      ap (λ x. Task x ∷ []) (ap (memoryLoad (drained m)) (v .head .holds-head) ∙ load ∙ ap (memoryLoad m) (sym (v .head .holds-head)))
-  drained-owes-inside (StealUnlockTask x) v q g = refl
-  drained-owes-inside (StealRestoreHead h) v q g = refl
-  drained-owes-inside StealUnlockAbort v q g = refl
-
--- a thief outside is about to load nothing
-pub drained-owes-outside : (m : Machine) (call : ThiefCall) → outside call ≡ true → thiefOwes (drained m) call ≡ thiefOwes m call
-drained-owes-outside m ThiefCall.Idle out = refl
-drained-owes-outside m StealLock out = refl
-drained-owes-outside m StealLoadHead out = refl
-drained-owes-outside m (StealRaiseHead h) out = refl
-drained-owes-outside m (StealLoadTail h) out = refl
-drained-owes-outside m (StealLoadSlot h) out = absurd (false≢true out)
-drained-owes-outside m (StealUnlockTask x) out = refl
-drained-owes-outside m (StealRestoreHead h) out = refl
-drained-owes-outside m StealUnlockAbort out = refl
+      let there = idx-slot-below slots lo (omega (arith, v .sizes .slots-least)) in
+      let load : memoryLoad (drained m) (idx lo) ≡ memoryLoad m (idx lo) =
+      slotsAfter-slotAfter slots (slotOf slots (idx lo)) (m .slots) (oldest (m .buffer) .kind) (omega (arith, v .memory, v .sizes .slots-most))
+      ∙ slots-leave-one slots lo (memoryLoad m (idx lo)) (omega (arith, v .head .floor)) (g .below) above
+      in
+      ap (memoryLoad (drained m)) here ∙ load ∙ ap (memoryLoad m) (sym here)

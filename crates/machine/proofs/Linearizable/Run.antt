@@ -9,11 +9,11 @@ use lib.Dec.{eqb}
 use lib.ListN.{length, length-set}
 use lib.Seq.{getD-set-other, getD-set-same}
 use borrow.Author.Tests.{eq-eqb, eqb-false, eqb-true, ltb-true, ne-eqb, not-true}
-use Rattle.machine.specs.Types.{Done, Entry, Drain, ClientStore, BeginPut, BeginTake, WorkerStep, BeginSteal, ThiefStep, Machine, Outcome, Moved, Wait, Sizes, Task, ThiefCall, StealLock, StealLoadHead, StealRaiseHead, StealLoadTail, StealLoadSlot, StealUnlockTask, StealRestoreHead, StealUnlockAbort, WorkerCall, PutLoadHead, PutStoreSlot, PutStoreTail, TakeStoreTail, TakeLoadHead, TakeLoadSlot, TakeLock, TakeReloadHead, TakeRestoreTail, TakeUnlockEmpty, TakeUnlockTask, TakeLoadLastSlot}
+use Rattle.machine.specs.Types.{Done, Entry, Index, Drain, ClientStore, BeginPut, BeginTake, WorkerStep, BeginSteal, ThiefStep, Machine, Outcome, Moved, Wait, Sizes, ThiefCall, StealLoadSlot, WorkerCall}
 use Rattle.machine.specs.Lists.{all}
 use Rattle.machine.specs.Sizes.{enoughMargin}
 use Rattle.machine.specs.Outcome.{isAnswer, isRefusal}
-use Rattle.machine.specs.Machine.{done, idleThief, memoryLoad, nothingPending, thiefCall, workerLoad, workerTail}
+use Rattle.machine.specs.Machine.{done, idleThief, memoryLoad, nothingPending, thiefCall}
 use Rattle.machine.specs.InRange.{inRange}
 use Rattle.machine.specs.Obey.{obey, obeyInRange, thiefIsThere}
 use Rattle.machine.specs.PlainQueue.{Told, PlainQueue, Reply, respond, withinLimits}
@@ -21,11 +21,13 @@ use Rattle.machine.specs.Effect.{Begun, nothing, aPut, aTake, aSteal, Ef
 use Rattle.machine.specs.Linearizable.{answersTo, thiefOwes, workerOwes}
 use Rattle.machine.proofs.Laws.Tests.{both-right, decide}
 use Rattle.machine.proofs.Laws.Loads.{drained}
-use Rattle.machine.proofs.Linearizable.Invariant.{AgreesOn, Follows, InPlace, Invariant, Sound, holds, thiefBegun, workerBegun}
+use Rattle.machine.proofs.Linearizable.Invariant.{AgreesOn, Follows, InPlace, Invariant, Sound, holds, outside, thiefBegun, workerBegun}
 use Rattle.machine.proofs.Linearizable.Turn.{ThiefTurn, Turn, WorkerTurn, begunAfter, orElse, owedAfter, raided, toldIn, worked}
 use Rattle.machine.proofs.Linearizable.Worker.{begin-put, begin-take, client-store, worker-step}
 use Rattle.machine.proofs.Linearizable.Thief.{begin-steal, thief-step}
-use Rattle.machine.proofs.Linearizable.Drain.{drained-agrees, drained-begun, drained-owes, drained-owes-inside, drained-owes-outside, drained-sound}
+use Rattle.machine.proofs.Linearizable.Drain.{drained-agrees, drained-begun, drained-owes, drained-sound, drained-stolen}
+use Rattle.machine.proofs.Linearizable.Owed.{thiefOwes-same, workerBegun-same, workerOwes-same}
+use Rattle.machine.proofs.Linearizable.Rebuild.{seen-tail}
 
 -- ── A party's call ──────────────────────────────────────────────────────────────────────────────────────────────────────────
 
@@ -114,49 +116,6 @@ pub record Kept (s : Sizes) (n : ℕ) (w : Watch) (p : Party) (e : Entry) (d : D
   pub limits : enoughMargin s ≡ true → all (withinLimits (s .slots) (w .queue)) (toldBy w p e d) ≡ true
   pub answers : enoughMargin s ≡ true → isAnswer (d .outcome) ≡ true → answersTo (callBy w p e d) ≡ d .outcome ∷ []
 
--- what the other parties owe, where neither memory nor the pending stores change
-
-thiefOwes-same : (m t : Machine) → memoryLoad m ≡ memoryLoad t → (c : ThiefCall) → thiefOwes m c ≡ thiefOwes t c
-thiefOwes-same m t same ThiefCall.Idle = refl
-thiefOwes-same m t same StealLock = refl
-thiefOwes-same m t same StealLoadHead = refl
-thiefOwes-same m t same (StealRaiseHead h) = refl
-thiefOwes-same m t same (StealLoadTail h) = refl
-thiefOwes-same m t same (StealLoadSlot h) = ap (λ load. Task (load h) ∷ []) same
-thiefOwes-same m t same (StealUnlockTask x) = refl
-thiefOwes-same m t same (StealRestoreHead h) = refl
-thiefOwes-same m t same StealUnlockAbort = refl
-
-workerOwes-same : (m t : Machine) → workerLoad m ≡ workerLoad t → (c : WorkerCall) → workerOwes m c ≡ workerOwes t c
-workerOwes-same m t same WorkerCall.Idle = refl
-workerOwes-same m t same (PutLoadHead x) = refl
-workerOwes-same m t same (PutStoreSlot x) = refl
-workerOwes-same m t same PutStoreTail = refl
-workerOwes-same m t same TakeStoreTail = refl
-workerOwes-same m t same (TakeLoadHead i) = refl
-workerOwes-same m t same (TakeLoadSlot i) = ap (λ load. Task (load i) ∷ []) same
-workerOwes-same m t same (TakeLock i) = refl
-workerOwes-same m t same (TakeReloadHead i) = refl
-workerOwes-same m t same (TakeRestoreTail i) = refl
-workerOwes-same m t same TakeUnlockEmpty = refl
-workerOwes-same m t same (TakeUnlockTask i) = ap (λ load. Task (load i) ∷ []) same
-workerOwes-same m t same (TakeLoadLastSlot i) = ap (λ load. Task (load i) ∷ []) same
-
-workerBegun-same : (m t : Machine) → workerLoad m ≡ workerLoad t → workerTail m ≡ workerTail t → (c : WorkerCall) → workerBegun m c ≡ workerBegun t c
-workerBegun-same m t same tail WorkerCall.Idle = refl
-workerBegun-same m t same tail (PutLoadHead x) = refl
-workerBegun-same m t same tail (PutStoreSlot x) = refl
-workerBegun-same m t same tail PutStoreTail = λ j. aPut (same j (tail j))
-workerBegun-same m t same tail TakeStoreTail = refl
-workerBegun-same m t same tail (TakeLoadHead i) = refl
-workerBegun-same m t same tail (TakeLoadSlot i) = refl
-workerBegun-same m t same tail (TakeLock i) = refl
-workerBegun-same m t same tail (TakeReloadHead i) = refl
-workerBegun-same m t same tail (TakeRestoreTail i) = refl
-workerBegun-same m t same tail TakeUnlockEmpty = refl
-workerBegun-same m t same tail (TakeUnlockTask i) = refl
-workerBegun-same m t same tail (TakeLoadLastSlot i) = refl
-
 module _ {s : Sizes} {n : ℕ} {w : Watch} (v : Invariant s n w) where
   -- an entry of the worker's
   by-the-worker :
@@ -187,7 +146,7 @@ module _ {s : Sizes} {n : ℕ} {w : Watch} (v : Invariant s n w) where
             agrees = λ enough. turn enough .agrees;
             worker-call = λ enough. turn enough .follows;
             thief-call = λ enough i.
-                record { begun = v .thief-call enough i .begun; answers = v .thief-call enough i .answers ∙ thiefOwes-same m m′ refl (thiefCall m i) };
+                record { begun = v .thief-call enough i .begun; answers = v .thief-call enough i .answers ∙ thiefOwes-same m m′ (thiefCall m i) (λ h e. refl) };
           }
 
       limits : enoughMargin s ≡ true → all (withinLimits (s .slots) (w .queue)) (toldBy w worker e (done (t .outcome) m′)) ≡ true
@@ -242,8 +201,8 @@ module _ {s : Sizes} {n : ℕ} {w : Watch} (v : Invariant s n w) where
             agrees = λ enough. turn enough .agrees;
             worker-call = λ enough.
                 record {
-                  begun = v .worker-call enough .begun ∙ workerBegun-same m m′ refl refl (m .worker .call);
-                  answers = v .worker-call enough .answers ∙ workerOwes-same m m′ refl (m .worker .call);
+                  begun = v .worker-call enough .begun ∙ workerBegun-same m m′ (v .sound .buffer .seen) refl (m .worker .call) (seen-tail (v .sound .buffer)) (seen-tail (v .sound .buffer));
+                  answers = v .worker-call enough .answers ∙ workerOwes-same m m′ (v .sound .buffer .seen) refl (m .worker .call) (v .sound .tail .holds-tail);
                 };
             thief-call = λ enough.
                 each (λ j c. Follows (cond (eqb j i) (callAfter (callBy w (thief i) e (done (t .outcome) m′)) (t .outcome) e) (w .calls (thief j))) (thiefBegun c) (thiefOwes m′ c))
@@ -252,7 +211,7 @@ module _ {s : Sizes} {n : ℕ} {w : Watch} (v : Invariant s n w) where
                 (λ j apart.
                 subst (λ b. Follows (cond b (callAfter (callBy w (thief i) e (done (t .outcome) m′)) (t .outcome) e) (w .calls (thief j))) (thiefBegun (thiefCall m j)) (thiefOwes m′ (thiefCall m j)))
                 (sym (ne-eqb j i apart))
-                (record { begun = v .thief-call enough j .begun; answers = v .thief-call enough j .answers ∙ thiefOwes-same m m′ refl (thiefCall m j) }));
+                (record { begun = v .thief-call enough j .begun; answers = v .thief-call enough j .answers ∙ thiefOwes-same m m′ (thiefCall m j) (λ h e. refl) }));
           }
 
       limits : enoughMargin s ≡ true → all (withinLimits (s .slots) (w .queue)) (toldBy w (thief i) e (done (t .outcome) m′)) ≡ true
@@ -268,11 +227,12 @@ module _ {s : Sizes} {n : ℕ} {w : Watch} (v : Invariant s n w) where
       m : Machine
       m = w .machine
 
-      -- a thief is inside, and then no pending store is to its slot, or has nothing to load
-      thief-owes : enoughMargin s ≡ true → (i : ℕ) (b : Bool) → InPlace b (m .sizes .thieves) i (v .inside) (thiefCall m i) → thiefOwes m (thiefCall m i) ≡ thiefOwes (drained m) (thiefCall m i)
-      thief-owes enough i true place =
-          subst (λ c. thiefOwes m c ≡ thiefOwes (drained m) c) (sym (place .0)) (sym (drained-owes-inside some (v .inside) (v .sound) (w .queue) (v .agrees enough)))
-      thief-owes enough i false place = sym (drained-owes-outside m (thiefCall m i) place)
+      -- a thief that is about to load a slot is inside, and no pending store is to that slot
+      thief-loads :
+          enoughMargin s ≡ true → (i : ℕ) (b : Bool) → InPlace b (m .sizes .thieves) i (v .inside) (thiefCall m i) → (h : Index)
+          → thiefCall m i ≡ StealLoadSlot h → memoryLoad m h ≡ memoryLoad (drained m) h
+      thief-loads enough i true place h at = sym (drained-stolen (v .sound) some (w .queue) h (sym (place .0) ∙ at) (v .agrees enough))
+      thief-loads enough i false place h at = absurd (false≢true (sym (ap outside at) ∙ place))
 
       next : Invariant s (n + 1) (watchBy w worker Drain (done Moved (drained m)))
       next =
@@ -285,15 +245,15 @@ module _ {s : Sizes} {n : ℕ} {w : Watch} (v : Invariant s n w) where
             agrees = λ enough. drained-agrees (v .sound) some (w .queue) (v .agrees enough);
             worker-call = λ enough.
                 record {
-                  begun = v .worker-call enough .begun ∙ sym (drained-begun some (m .worker .call) (v .sound));
+                  begun = v .worker-call enough .begun ∙ drained-begun (v .sound) some;
                   answers =
                       ap (map (λ r. r .answer)) (append-nil (w .calls worker .replies))
-                      ∙ v .worker-call enough .answers ∙ sym (drained-owes some (m .worker .call) (v .sound));
+                      ∙ v .worker-call enough .answers ∙ drained-owes (v .sound) some;
                 };
             thief-call = λ enough i.
                 record {
                   begun = v .thief-call enough i .begun;
-                  answers = v .thief-call enough i .answers ∙ thief-owes enough i (holds (m .lock .holder) i) (v .thieves i);
+                  answers = v .thief-call enough i .answers ∙ thiefOwes-same m (drained m) (thiefCall m i) (thief-loads enough i (holds (m .lock .holder) i) (v .thieves i));
                 };
           }
 
