@@ -3,8 +3,10 @@ pub mod Sizes
 pub mod Tests
 pub mod Sums
 pub mod StoreBuffer
-pub mod Obey
 pub mod PlainQueue
 pub mod Index
+pub mod Words
+pub mod InRange
+pub mod Obey
 pub mod Chain
 pub mod Loads

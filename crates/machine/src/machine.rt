@@ -1,13 +1,26 @@
 use crate::boolean::both;
+use crate::entry::Entry;
 use crate::index::Index;
+use crate::index::slot_of;
 use crate::outcome::Outcome;
 use crate::sizes::Sizes;
+use crate::store_buffer::Store;
 use crate::store_buffer::StoreBuffer;
+use crate::store_buffer::StoreKind;
+use crate::store_buffer::chosen;
 use crate::thief::Thief;
+use crate::thief::ThiefCall;
 use crate::thief::thieves_in_range;
 use crate::worker::Worker;
+use crate::worker::WorkerCall;
 ghost use mathlib.Core.Path.{_≡_};
+ghost use mathlib.Core.Bool.{true};
 ghost use Rattle.machine.specs.InRange.{inRange};
+ghost use Rattle.machine.specs.Index.{slotIndexInRange};
+ghost use Rattle.machine.specs.Machine.{fresh, isNobody, memoryLoad, workerLoad, workerTail};
+ghost use Rattle.machine.specs.Obey.{obey};
+ghost use Rattle.machine.specs.Types.{BeginPut, BeginSteal, BeginTake, ClientStore, Drain};
+ghost use Rattle.machine.specs.Update.{withLock};
 
 // Who holds the lock.
 pub enum Holder {
@@ -20,6 +33,20 @@ pub enum Holder {
 // The queue's lock.
 pub struct Lock {
     pub holder: Holder,
+}
+
+impl Lock {
+    // Whether nobody holds it.
+    pub(crate) fn is_free(self) -> bool
+        ensures { λ r. ⌜ r ≡ isNobody (self .holder) ⌝ }
+    {
+        let holder = self.holder;
+        match holder {
+            Holder::Nobody => true,
+            Holder::TheWorker => false,
+            Holder::TheThief(_) => false,
+        }
+    }
 }
 
 // The whole state of a rehearsal. An operation takes it and hands the next one back.
@@ -71,5 +98,226 @@ impl Machine {
         let stored = both(tailed, buffer.in_range());
         let working = both(stored, worker.in_range());
         both(working, thieves_in_range(thieves))
+    }
+
+    // The tail as the worker loads it.
+    pub(crate) fn worker_tail(self) -> Index
+        ensures { λ r. ⌜ r ≡ workerTail self ⌝ }
+    {
+        let buffer = self.buffer;
+        let tail = self.tail;
+        buffer.newest_tail(tail)
+    }
+
+    // What memory has in the slot of an index.
+    pub(crate) fn memory_load(self, index: Index) -> u32
+        requires { ⌜ (inRange self ≡ true) × (slotIndexInRange index ≡ true) ⌝ }
+        ensures { λ r. ⌜ r ≡ memoryLoad self index ⌝ }
+    {
+        let slot = slot_of(index, self.sizes.slots);
+        let memory = self.slots;
+        memory[slot]
+    }
+
+    // What the worker loads from the slot of an index.
+    pub(crate) fn worker_load(self, index: Index) -> u32
+        requires { ⌜ (inRange self ≡ true) × (slotIndexInRange index ≡ true) ⌝ }
+        ensures { λ r. ⌜ r ≡ workerLoad self index ⌝ }
+    {
+        let slots = self.sizes.slots;
+        let slot = slot_of(index, slots);
+        let memory = self.slots;
+        let value = memory[slot];
+        let buffer = self.buffer;
+        buffer.newest_in_slot(slots, slot, value)
+    }
+
+    // With this holder of the lock.
+    pub(crate) fn with_lock(mut self, holder: Holder) -> Machine
+        ensures { λ r. ⌜ r ≡ withLock holder self ⌝ }
+    {
+        let lock = Lock { holder: holder };
+        self.lock = lock;
+        self
+    }
+
+    // The oldest pending store reaches memory.
+    pub fn drain(mut self) -> Done
+        ensures { λ r. ⌜ r ≡ obey self Drain ⌝ }
+    {
+        if !self.in_range() {
+            return Done {
+                machine: self,
+                outcome: Outcome::Wait,
+            };
+        }
+        if self.buffer.count == 0 {
+            return Done {
+                machine: self,
+                outcome: Outcome::Wait,
+            };
+        }
+        let buffer = self.buffer;
+        let store = buffer.oldest();
+        let kind = store.kind;
+        let tail = self.tail;
+        let memory = self.slots;
+        let slots = kind.slots_after(self.sizes.slots, memory);
+        self.tail = kind.tail_after(tail);
+        self.slots = slots;
+        self.buffer = buffer.drop_oldest();
+        Done {
+            machine: self,
+            outcome: Outcome::Moved,
+        }
+    }
+
+    // The worker makes a store that has nothing to do with the queue.
+    pub fn client_store(mut self) -> Done
+        ensures { λ r. ⌜ r ≡ obey self ClientStore ⌝ }
+    {
+        if !self.in_range() {
+            return Done {
+                machine: self,
+                outcome: Outcome::Wait,
+            };
+        }
+        if self.worker_runs() {
+            return Done {
+                machine: self,
+                outcome: Outcome::Place,
+            };
+        }
+        let room = self.sizes.buffer as usize;
+        if room <= self.buffer.count {
+            return Done {
+                machine: self,
+                outcome: Outcome::Wait,
+            };
+        }
+        let store = Store {
+            kind: StoreKind::Client,
+        };
+        let buffer = self.buffer;
+        self.buffer = buffer.push(store);
+        self.since = chosen(self.taken, self.since + 1, 0);
+        Done {
+            machine: self,
+            outcome: Outcome::Moved,
+        }
+    }
+
+    // The worker begins to put the task with this number.
+    pub fn begin_put(mut self, task: u32) -> Done
+        ensures { λ r. ⌜ r ≡ obey self (BeginPut task) ⌝ }
+    {
+        if !self.in_range() {
+            return Done {
+                machine: self,
+                outcome: Outcome::Wait,
+            };
+        }
+        if self.worker_runs() {
+            return Done {
+                machine: self,
+                outcome: Outcome::Place,
+            };
+        }
+        self.worker_comes_to(Outcome::Moved, WorkerCall::PutLoadHead(task))
+    }
+
+    // The worker begins to take a task, if client stores have spaced it from the take before.
+    pub fn begin_take(mut self) -> Done
+        ensures { λ r. ⌜ r ≡ obey self BeginTake ⌝ }
+    {
+        if !self.in_range() {
+            return Done {
+                machine: self,
+                outcome: Outcome::Wait,
+            };
+        }
+        if self.worker_runs() {
+            return Done {
+                machine: self,
+                outcome: Outcome::Place,
+            };
+        }
+        if both(self.taken, self.since < self.sizes.spacing) {
+            return Done {
+                machine: self,
+                outcome: Outcome::Early,
+            };
+        }
+        self.since = 0;
+        self.taken = true;
+        self.worker_comes_to(Outcome::Moved, WorkerCall::TakeStoreTail)
+    }
+
+    // The thief with this number, counted from 0, begins to steal.
+    pub fn begin_steal(mut self, thief: u32) -> Done
+        ensures { λ r. ⌜ r ≡ obey self (BeginSteal thief) ⌝ }
+    {
+        if !self.ready_for_thief(thief) {
+            return Done {
+                machine: self,
+                outcome: Outcome::Wait,
+            };
+        }
+        if self.thief_runs(thief) {
+            return Done {
+                machine: self,
+                outcome: Outcome::Place,
+            };
+        }
+        self.thief_comes_to(thief, Outcome::Moved, ThiefCall::StealLock)
+    }
+
+    // An entry is obeyed, whichever it is.
+    pub fn obey(mut self, entry: Entry) -> Done
+        ensures { λ r. ⌜ r ≡ obey self entry ⌝ }
+    {
+        match entry {
+            Entry::Drain => return self.drain(),
+            Entry::ClientStore => return self.client_store(),
+            Entry::BeginPut(task) => return self.begin_put(task),
+            Entry::BeginTake => return self.begin_take(),
+            Entry::WorkerStep => return self.worker_step(),
+            Entry::BeginSteal(thief) => return self.begin_steal(thief),
+            Entry::ThiefStep(thief) => return self.thief_step(thief),
+        }
+    }
+
+    // The machine of these sizes before the first entry.
+    pub fn fresh(sizes: Sizes) -> Machine
+        ensures { λ r. ⌜ r ≡ fresh sizes ⌝ }
+    {
+        let start = Index {
+            at: sizes.start as i64,
+        };
+        let client = Store {
+            kind: StoreKind::Client,
+        };
+        let idle = Thief {
+            call: ThiefCall::Idle,
+        };
+        Machine {
+            sizes: sizes,
+            slots: [0; 256],
+            head: start,
+            tail: start,
+            lock: Lock {
+                holder: Holder::Nobody,
+            },
+            buffer: StoreBuffer {
+                stores: [client; 64],
+                count: 0,
+            },
+            since: 0,
+            taken: false,
+            worker: Worker {
+                call: WorkerCall::Idle,
+            },
+            thieves: [idle; 8],
+        }
     }
 }

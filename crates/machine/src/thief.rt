@@ -1,8 +1,31 @@
 use crate::boolean::both;
 use crate::index::Index;
+use crate::machine::Done;
+use crate::machine::Holder;
+use crate::machine::Machine;
+use crate::outcome::Outcome;
 ghost use mathlib.Core.Path.{_≡_};
-ghost use Rattle.machine.specs.InRange.{thiefInRange};
+ghost use mathlib.Core.Bool.{true, _&&_};
+ghost use Prim.Native.Nat.{_<_};
+ghost use lib.Dec.{ltb};
+ghost use lib.ListN.{getD};
+ghost use Rattle.machine.specs.Index.{indexInRange, slotIndexInRange};
+ghost use Rattle.machine.specs.InRange.{inRange, thiefInRange};
 ghost use Rattle.machine.specs.Lists.{all};
+ghost use Rattle.machine.specs.Machine.{done, idleThief, thiefCall};
+ghost use Rattle.machine.specs.Obey.{obey};
+ghost use Rattle.machine.specs.Thief.{
+  stealLoadHead,
+  stealLoadSlot,
+  stealLoadTail,
+  stealLock,
+  stealRaiseHead,
+  stealRestoreHead,
+  stealUnlock,
+  thiefRuns,
+};
+ghost use Rattle.machine.specs.Types.{ThiefStep};
+ghost use Rattle.machine.specs.Update.{withThief};
 
 // A thief's call in progress: one case for each step that is next, with what that step and later ones use.
 pub enum ThiefCall {
@@ -64,4 +87,156 @@ pub(crate) fn thieves_in_range(thieves: [Thief; 8]) -> bool
         i += 1;
     }
     ok
+}
+
+impl Machine {
+    // Whether the machine is in range and the thief with this number is there.
+    pub(crate) fn ready_for_thief(self, thief: u32) -> bool
+        ensures { λ r. ⌜ r ≡ (inRange self && ltb thief (self .sizes .thieves)) ⌝ }
+    {
+        both(self.in_range(), thief < self.sizes.thieves)
+    }
+
+    // The thief with this number.
+    fn thief_at(self, thief: u32) -> Thief
+        requires { ⌜ thief < 8 ⌝ }
+        ensures { λ r. ⌜ r ≡ getD (self .thieves) thief idleThief ⌝ }
+    {
+        let thieves = self.thieves;
+        let at = thief as usize;
+        thieves[at]
+    }
+
+    // Whether a call of the thief with this number runs.
+    pub(crate) fn thief_runs(self, thief: u32) -> bool
+        requires { ⌜ thief < 8 ⌝ }
+        ensures { λ r. ⌜ r ≡ thiefRuns (thiefCall self thief) ⌝ }
+    {
+        let found = self.thief_at(thief);
+        let call = found.call;
+        if let ThiefCall::Idle = call {
+            return false;
+        }
+        true
+    }
+
+    // Handed back with what the entry came to and the step that is next in that thief's call.
+    pub(crate) fn thief_comes_to(mut self, thief: u32, outcome: Outcome, call: ThiefCall) -> Done
+        requires { ⌜ thief < 8 ⌝ }
+        ensures { λ r. ⌜ r ≡ done outcome (withThief thief call self) ⌝ }
+    {
+        let after = Thief { call: call };
+        let at = thief as usize;
+        let mut thieves = self.thieves;
+        thieves[at] = after;
+        self.thieves = thieves;
+        Done {
+            machine: self,
+            outcome: outcome,
+        }
+    }
+
+    // Steal, step 1: lock.
+    fn steal_lock(mut self, thief: u32) -> Done
+        requires { ⌜ thief < 8 ⌝ }
+        ensures { λ r. ⌜ r ≡ stealLock thief self ⌝ }
+    {
+        let lock = self.lock;
+        if lock.is_free() {
+            self = self.with_lock(Holder::TheThief(thief));
+            return self.thief_comes_to(thief, Outcome::Moved, ThiefCall::StealLoadHead);
+        }
+        Done {
+            machine: self,
+            outcome: Outcome::Wait,
+        }
+    }
+
+    // Steal, step 2: load head.
+    fn steal_load_head(self, thief: u32) -> Done
+        requires { ⌜ thief < 8 ⌝ }
+        ensures { λ r. ⌜ r ≡ stealLoadHead thief self ⌝ }
+    {
+        let head = self.head;
+        self.thief_comes_to(thief, Outcome::Moved, ThiefCall::StealRaiseHead(head))
+    }
+
+    // Steal, step 3: raise head.
+    fn steal_raise_head(mut self, thief: u32, h: Index) -> Done
+        requires { ⌜ (thief < 8) × (indexInRange h ≡ true) ⌝ }
+        ensures { λ r. ⌜ r ≡ stealRaiseHead thief h self ⌝ }
+    {
+        self.head = h.next();
+        self.thief_comes_to(thief, Outcome::Moved, ThiefCall::StealLoadTail(h))
+    }
+
+    // Steal, step 4: load tail. The slot is next if the margin is kept, else head is put back.
+    fn steal_load_tail(self, thief: u32, h: Index) -> Done
+        requires { ⌜ (thief < 8) × (indexInRange (self .tail) ≡ true) ⌝ }
+        ensures { λ r. ⌜ r ≡ stealLoadTail thief h self ⌝ }
+    {
+        let sizes = self.sizes;
+        let tail = self.tail;
+        if h.keeps_margin(tail, sizes.margin_in_use()) {
+            return self.thief_comes_to(thief, Outcome::Moved, ThiefCall::StealLoadSlot(h));
+        }
+        self.thief_comes_to(thief, Outcome::Moved, ThiefCall::StealRestoreHead(h))
+    }
+
+    // Steal, step 5 where the margin is kept: load the slot.
+    fn steal_load_slot(self, thief: u32, h: Index) -> Done
+        requires { ⌜ (thief < 8) × (inRange self ≡ true) × (slotIndexInRange h ≡ true) ⌝ }
+        ensures { λ r. ⌜ r ≡ stealLoadSlot thief h self ⌝ }
+    {
+        let task = self.memory_load(h);
+        self.thief_comes_to(thief, Outcome::Moved, ThiefCall::StealUnlockTask(task))
+    }
+
+    // Steal, step 5 where the margin is not kept: put head back.
+    fn steal_restore_head(mut self, thief: u32, h: Index) -> Done
+        requires { ⌜ thief < 8 ⌝ }
+        ensures { λ r. ⌜ r ≡ stealRestoreHead thief h self ⌝ }
+    {
+        self.head = h;
+        self.thief_comes_to(thief, Outcome::Moved, ThiefCall::StealUnlockAbort)
+    }
+
+    // Steal, step 6: unlock, and answer.
+    fn steal_unlock(mut self, thief: u32, outcome: Outcome) -> Done
+        requires { ⌜ thief < 8 ⌝ }
+        ensures { λ r. ⌜ r ≡ stealUnlock thief outcome self ⌝ }
+    {
+        self = self.with_lock(Holder::Nobody);
+        self.thief_comes_to(thief, outcome, ThiefCall::Idle)
+    }
+
+    // The call of the thief with this number makes its next step.
+    pub fn thief_step(mut self, thief: u32) -> Done
+        ensures { λ r. ⌜ r ≡ obey self (ThiefStep thief) ⌝ }
+    {
+        if !self.ready_for_thief(thief) {
+            return Done {
+                machine: self,
+                outcome: Outcome::Wait,
+            };
+        }
+        let found = self.thief_at(thief);
+        let call = found.call;
+        match call {
+            ThiefCall::Idle => return Done {
+                machine: self,
+                outcome: Outcome::Place,
+            },
+            ThiefCall::StealLock => return self.steal_lock(thief),
+            ThiefCall::StealLoadHead => return self.steal_load_head(thief),
+            ThiefCall::StealRaiseHead(h) => return self.steal_raise_head(thief, h),
+            ThiefCall::StealLoadTail(h) => return self.steal_load_tail(thief, h),
+            ThiefCall::StealLoadSlot(h) => return self.steal_load_slot(thief, h),
+            ThiefCall::StealUnlockTask(task) => {
+                return self.steal_unlock(thief, Outcome::Task(task));
+            }
+            ThiefCall::StealRestoreHead(h) => return self.steal_restore_head(thief, h),
+            ThiefCall::StealUnlockAbort => return self.steal_unlock(thief, Outcome::Abort),
+        }
+    }
 }

@@ -6,11 +6,11 @@ use Prim.Native.Nat.{ℕ, zero, suc, _+_, _-_, _*_, _/_, _%_, _≤_, _<_, zero-l
 use native.Mathlib.Nat.{div-add-mod, mod-lt, mul-le-mul-left, mul-suc}
 use native.Mathlib.Omega.{arith}
 use lib.Dec.{eqb, leb, ltb}
-use lib.IntN.{ℤ, pos, negsuc, subℕ, _+ℤ_, _-ℤ_, +ℤ-idr}
+use lib.IntN.{ℤ, negsuc, pos, subℕ, _+ℤ_, _-ℤ_, +ℤ-idr}
 use lib.Signed.{leZ, ltZ}
 use borrow.Author.Tests.{eqb-false, eqb-true, le-leb, le-ltb, leb-false, leb-true, lt-leb, lt-ltb, ltb-false, ltb-true}
 use Rattle.machine.specs.Types.{Index}
-use Rattle.machine.specs.Index.{eqZ, indexInRange, indexOf, next, previous, slotIndexInRange, slotOf}
+use Rattle.machine.specs.Index.{eqZ, indexInRange, indexOf, modulo, next, previous, slotIndexInRange, slotOf}
 
 -- two tests of an order agree where the orders do
 leb-iff : (a b c d : ℕ) → (a ≤ b → c ≤ d) → (c ≤ d → a ≤ b) → leb a b ≡ leb c d
@@ -137,10 +137,13 @@ idx-full n t h some =
 pub idx-slot : (n k : ℕ) → 1 ≤ k → slotOf n (idx k) ≡ (k - 1) % n
 idx-slot n k some = rw (subℕ-pos k 1 some)
 
--- .. and of any: one of the slots
-pub idx-slot-below : (n k : ℕ) → 1 ≤ n → slotOf n (idx k) < n
-idx-slot-below n zero slots = omega arith
-idx-slot-below n (suc k) slots = rw (idx-slot n (suc k) (omega arith)) (mod-lt (suc k - 1) slots)
+-- whatever the index, one of the slots
+pub slotOf-below : (n : ℕ) (i : Index) → 0 < n → slotOf n i < n
+slotOf-below n i some = go (i .at)
+  where
+    go : (z : ℤ) → modulo z n < n
+    go (pos k) = mod-lt k some
+    go (negsuc k) = omega arith
 
 pub idx-in-range : (k : ℕ) → indexInRange (idx k) ≡ leb k 2147483649
 idx-in-range k = rw (idx-le 0 k, le-leb 0 k zero-le) (idx-le k 2147483649)

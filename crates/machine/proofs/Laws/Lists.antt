@@ -1,14 +1,14 @@
 -- Laws of tests over a list, and of lists whose elements are all replaced by a function.
 use mathlib.Core.Path.{_≡_, refl, ap, sym, _∙_}
 use mathlib.Core.Bool.{Bool, true, false, cond, _&&_}
-use mathlib.Core.List.{List, [], _∷_, _++_, foldl, map}
+use mathlib.Core.List.{List, [], _∷_, _++_, foldl, foldl-append, map}
 use Prim.Native.Nat.{ℕ, zero, suc, _+_, _≤_, _<_}
 use native.Mathlib.Nat.{le-of-suc-le-suc, not-suc-le-zero}
-use native.Mathlib.Numerals.{add-one}
-use native.Mathlib.Omega.{arith}
+use native.Mathlib.Numerals.{add-one, one-add}
 use lib.Dec.{eqb}
-use lib.ListN.{length, getD, take, drop, set, replicate}
-use lib.Seq.{getD-set-other, getD-set-same, take-all, take-suc}
+use native.Mathlib.Omega.{arith}
+use lib.ListN.{length, getD, take, drop, set, replicate, length-drop}
+use lib.Seq.{append-snoc, drop-cons, getD-append-add, getD-drop, getD-set-other, getD-set-same, length-take-le, set-at, take-all, take-nil, take-suc}
 use borrow.Author.Tests.{eqb-false, eqb-true}
 use Rattle.machine.specs.Lists.{all, upFrom, upTo}
 use Rattle.machine.proofs.Laws.Tests.{both-left, both-right}
@@ -30,10 +30,21 @@ module _ {A : Type 0} (f : A → Bool) where
   pub all-more : (l : List A) (i : ℕ) (d : A) → i < length l → all f (take (i + 1) l) ≡ (all f (take i l) && f (getD l i d))
   all-more l i d h = rw (add-one, take-suc l i d) (all-snoc (take i l) (getD l i d))
 
+  -- a test that all the first n passed, and the default, each of them passed
+  pub all-at : (l : List A) (n i : ℕ) (d : A) → f d ≡ true → all f (take n l) ≡ true → i < n → f (getD l i d) ≡ true
+  all-at [] n i d e p h = e
+  all-at (x ∷ l) zero i d e p h = absurd (not-suc-le-zero h)
+  all-at (x ∷ l) (suc n) zero d e p h = both-left (f x) (all f (take n l)) p
+  all-at (x ∷ l) (suc n) (suc i) d e p h = all-at l n i d e (both-right (f x) (all f (take n l)) p) (le-of-suc-le-suc h)
+
+  -- where all elements and the default pass, what stands at any place does
+  pub all-getD : (l : List A) (i : ℕ) (d : A) → f d ≡ true → all f l ≡ true → f (getD l i d) ≡ true
+  all-getD l i d e p = all-at l (length l + suc i) i d e (ap (all f) (take-all (length l + suc i) l (omega arith)) ∙ p) (omega arith)
+
   -- where each element passes a test, all do
-  pub all-getD : (l : List A) (d : A) → ((i : ℕ) → f (getD l i d) ≡ true) → all f l ≡ true
-  all-getD [] d each = refl
-  all-getD (x ∷ l) d each = rw (each 0) (all-getD l d (λ i. each (suc i)))
+  pub all-each : (l : List A) (d : A) → ((i : ℕ) → f (getD l i d) ≡ true) → all f l ≡ true
+  all-each [] d each = refl
+  all-each (x ∷ l) d each = rw (each 0) (all-each l d (λ i. each (suc i)))
 
 -- a test that all numbers below a bound passed, each of them passed
 all-upFrom : (f : ℕ → Bool) (j n i : ℕ) → all f (upFrom j n) ≡ true → i < n → f (j + i) ≡ true
@@ -43,6 +54,10 @@ all-upFrom f j (suc n) (suc i) p h = ap f (omega arith) ∙ all-upFrom f (suc j)
 
 pub all-upTo : (f : ℕ → Bool) (n i : ℕ) → all f (upTo n) ≡ true → i < n → f i ≡ true
 all-upTo f n i p h = ap f (omega arith) ∙ all-upFrom f 0 n i p h
+
+-- a loop's turn: one element more has been gone through
+pub foldl-more : {A B : Type 0} (f : B → A → B) (v : B) (l : List A) (i : ℕ) (d : A) → i < length l → foldl f v (take (i + 1) l) ≡ f (foldl f v (take i l)) (getD l i d)
+foldl-more f v l i d h = rw (add-one, take-suc l i d) (foldl-append f v (take i l) (getD l i d ∷ []))
 
 -- a list taken to its end and past it is the whole list, however far
 pub take-whole : {A : Type 0} (l : List A) (i j : ℕ) → length l ≤ i → length l ≤ j → take i l ≡ take j l
@@ -93,3 +108,34 @@ module _ {A B : Type 0} (g : A → B) where
       → (c : C) (l : List A) → foldl s (h c) (map g l) ≡ h (foldl t c l)
   foldl-map h s t e c [] = refl
   foldl-map h s t e c (x ∷ l) = ap (λ d. foldl s d (map g l)) (e c x) ∙ foldl-map h s t e (t c x) l
+
+-- ── Moving the front of a list one place down ───────────────────────────────────────────────────────────────────────────────
+
+module _ {A : Type 0} (l : List A) where
+  -- the first k places hold what stood one place further, the others what they held
+  abbrev pub shifted : ℕ → List A
+  shifted k = take k (drop 1 l) ++ drop k l
+
+  module _ (k : ℕ) (there : k < length l) where
+    front-length : length (take k (drop 1 l)) ≡ k
+    front-length = length-take-le k (drop 1 l) (simp length-drop (omega arith))
+
+    -- a store at place k
+    pub set-shifted : (a d : A) → set (shifted k) k a ≡ take k (drop 1 l) ++ a ∷ drop (suc k) l
+    set-shifted a d =
+        ap (λ r. set (take k (drop 1 l) ++ r) k a) (drop-cons l k d there)
+        ∙ set-at (take k (drop 1 l)) (getD l k d) (drop (suc k) l) a k front-length
+
+  -- a loop's turn: place k gets what stands one place further
+  pub shifted-more : (k : ℕ) (d : A) → k + 1 < length l → set (shifted k) k (getD (shifted k) (k + 1) d) ≡ shifted (k + 1)
+  shifted-more k d there =
+      let further = rw (front-length k (omega arith)) at (getD-append-add (take k (drop 1 l)) (drop k l) 1 d) in
+      let inside : k < length (drop 1 l) = simp length-drop (omega arith) in
+      ap (set (shifted k) k) (further ∙ getD-drop k l 1 d)
+      ∙ set-shifted k (omega arith) (getD l (k + 1) d) d
+      ∙ sym (simp (add-one, one-add, take-suc (drop 1 l) k d inside, getD-drop, append-snoc))
+
+-- what stood one place further, of the first places
+pub take-drop-one : {A : Type 0} (k : ℕ) (l : List A) → take k (drop 1 l) ≡ drop 1 (take (k + 1) l)
+take-drop-one k [] = simp (add-one, take-nil)
+take-drop-one k (x ∷ l) = rw add-one

@@ -1,7 +1,7 @@
 -- What every entry does, whatever the machine: refused, it leaves the machine as it is; it keeps the sizes; it answers only at steps; and
 -- it waits where its thief is not there. One line for each step.
-use mathlib.Core.Path.{_≡_, refl, sym, _∙_}
-use mathlib.Core.Bool.{true, false, and-false, not, _&&_, false≢true}
+use mathlib.Core.Path.{_≡_, refl, ap, sym, _∙_}
+use mathlib.Core.Bool.{Bool, true, false, and-false, cond, not, _&&_, false≢true}
 use Prim.Native.Nat.{ℕ}
 use Rattle.machine.specs.Types.{Done, Entry, Drain, ClientStore, BeginPut, BeginTake, WorkerStep, BeginSteal, ThiefStep, Machine, Outcome, Moved, Wait, ThiefCall, StealLock, StealLoadHead, StealRaiseHead, StealLoadTail, StealLoadSlot, StealUnlockTask, StealRestoreHead, StealUnlockAbort, WorkerCall, PutLoadHead, PutStoreSlot, PutStoreTail, TakeStoreTail, TakeLoadHead, TakeLoadSlot, TakeLock, TakeReloadHead, TakeRestoreTail, TakeUnlockEmpty, TakeUnlockTask, TakeLoadLastSlot}
 use Rattle.machine.specs.Outcome.{isAnswer, isRefusal}
@@ -85,3 +85,7 @@ answers-at-steps m e c answer = obey-obeys m e .answers answer c
 -- 7 WAIT where the thief is not there
 pub thief-there : (m : Machine) (e : Entry) → thiefIsThere (m .sizes) e ≡ false → obey m e ≡ done Wait m
 thief-there m e gone = rw (gone, and-false)
+
+-- the entry is looked at where the machine is in range and the thief there, and only there
+pub obey-by : (m : Machine) (e : Entry) {b : Bool} → (inRange m && thiefIsThere (m .sizes) e) ≡ b → obey m e ≡ cond b (obeyInRange m e) (done Wait m)
+obey-by m e p = ap (λ b. cond b (obeyInRange m e) (done Wait m)) p

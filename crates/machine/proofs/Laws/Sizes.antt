@@ -29,7 +29,8 @@ divideUp-least n d m h covers = le-of-suc-le-suc (div-lt-iff-lt-mul {x = n + (d 
 -- ── Sizes in range ──────────────────────────────────────────────────────────────────────────────────────────────────────────
 
 -- What the table of sizes allows.
-pub record Bounds (s : Sizes) : Type 0 where
+pub record SizeBounds (s : Sizes) : Type 0 where
+  pub slots-some : 0 < s .slots
   pub slots-least : 2 ≤ s .slots
   pub slots-most : s .slots ≤ 256
   pub buffer-least : 1 ≤ s .buffer
@@ -50,12 +51,13 @@ kept-at place (false ∷ l) i h = absurd (false≢true h)
 within-bounds : (least greatest n : ℕ) → within least greatest n ≡ true → (least ≤ n) × (n ≤ greatest)
 within-bounds least greatest n h = (leb-true least n (both-left (leb least n) (leb n greatest) h), leb-true n greatest (both-right (leb least n) (leb n greatest) h))
 
-pub bounds : (s : Sizes) → sizesInRange s ≡ true → Bounds s
-bounds s h =
+pub sizes-bounds : (s : Sizes) → sizesInRange s ≡ true → SizeBounds s
+sizes-bounds s h =
     let slots = within-bounds 2 256 (s .slots) (kept-at 0 (rangesKept s) 0 h) in
     let buffer = within-bounds 1 64 (s .buffer) (kept-at 0 (rangesKept s) 1 h) in
     let thieves = within-bounds 1 8 (s .thieves) (kept-at 0 (rangesKept s) 4 h) in
     record {
+      slots-some = omega arith;
       slots-least = slots .0;
       slots-most = slots .1;
       buffer-least = buffer .0;

@@ -2,15 +2,15 @@
 -- stores lie within the array, and know nothing of the queue's calls.
 use mathlib.Core.Path.{_≡_, refl, ap, sym, _∙_}
 use mathlib.Core.List.{List, [], _∷_, _++_, foldl, foldl-append}
-use Prim.Native.Nat.{ℕ, _-_, _≤_, _<_}
+use Prim.Native.Nat.{ℕ, _+_, _-_, _≤_, _<_}
 use native.Mathlib.Numerals.{add-one}
 use native.Mathlib.Omega.{arith}
-use lib.ListN.{length, getD, drop, length-drop, length-set, length-take}
+use lib.ListN.{length, getD, drop, take, length-drop, length-set, length-take}
 use lib.Seq.{take-at, take-suc-set}
 use Rattle.machine.specs.Types.{Index, Store, StoreBuffer, StoreKind, Client, Tail, Slot}
 use Rattle.machine.specs.Index.{slotOf}
 use Rattle.machine.specs.StoreBuffer.{clientStore, dropOldest, newestInSlot, newestTail, oldest, pending, push, slotAfter, slotsAfter, tailAfter}
-use Rattle.machine.proofs.Laws.Lists.{getD-set, take-first}
+use Rattle.machine.proofs.Laws.Lists.{foldl-more, getD-set, take-first, take-whole}
 
 -- ── The pending list ────────────────────────────────────────────────────────────────────────────────────────────────────────
 
@@ -38,6 +38,29 @@ module _ {A : Type 0} (f : A → Store → A) (v : A) where
   pub dropOldest-foldl : (b : StoreBuffer) → 0 < b .count → b .count ≤ length (b .stores) → foldl f (f v (oldest b)) (pending (dropOldest b)) ≡ foldl f v (pending b)
   dropOldest-foldl b some within =
       ap (foldl f (f v (oldest b))) (dropOldest-pending b some within) ∙ sym (ap (foldl f v) (pending-oldest b some within))
+
+-- ── What a loop over it finds ───────────────────────────────────────────────────────────────────────────────────────────────
+
+module _ {A : Type 0} (g : List Store → A) (stores : List Store) (count : ℕ) where
+  -- after i stores, all of them pending, the loop has what g makes of those
+  abbrev pub Found : A → ℕ → Type 0
+  Found a i = (a ≡ g (take i stores)) × (i ≤ count) × (i ≤ 64)
+
+  -- it ends where no more are pending, or with the array
+  pub found-pending : (a : A) (i : ℕ) → Found a i → count ≤ i → a ≡ g (take count stores)
+  found-pending a i found past = let same : i ≡ count = omega arith in found .0 ∙ ap (λ n. g (take n stores)) same
+
+  pub found-whole : (a : A) (i : ℕ) → length stores ≡ 64 → Found a i → 64 ≤ i → a ≡ g (take count stores)
+  found-whole a i long found past = found .0 ∙ ap g (take-whole stores i count (omega arith) (omega arith))
+
+-- a turn of a loop that goes from store to store
+pub found-more : {A : Type 0} (f : A → Store → A) (v : A) (stores : List Store) (count : ℕ) (a next : A) (i : ℕ)
+    → length stores ≡ 64 → Found (foldl f v) stores count a i → i < count → i < 64 → next ≡ f a (getD stores i clientStore) → Found (foldl f v) stores count next (i + 1)
+found-more f v stores count a next i long found below inside step = (
+  step ∙ ap (λ u. f u (getD stores i clientStore)) (found .0) ∙ sym (foldl-more f v stores i clientStore (omega arith)),
+  omega arith,
+  omega arith,
+)
 
 -- ── What the worker loads ───────────────────────────────────────────────────────────────────────────────────────────────────
 

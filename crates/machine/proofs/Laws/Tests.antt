@@ -1,6 +1,6 @@
 -- Laws of tests: what a call's answer, once tested, says of the definition that it ensures; and what a function makes of a choice.
-use mathlib.Core.Path.{_≡_, refl, sym, _∙_}
-use mathlib.Core.Bool.{Bool, true, false, cond, _&&_, false≢true}
+use mathlib.Core.Path.{_≡_, refl, ap, sym, _∙_}
+use mathlib.Core.Bool.{Bool, true, false, cond, not, _&&_, false≢true}
 use Prim.Native.Nat.{ℕ}
 use lib.Dec.{eqb}
 use borrow.Author.Tests.{eq-eqb, eqb-false, eqb-true, ne-eqb}
@@ -8,6 +8,25 @@ use borrow.Author.Tests.{eq-eqb, eqb-false, eqb-true, ne-eqb}
 -- a call answered x, which is y by its contract, and the test found x to be b: so y is b
 pub known : {A : Type 0} {x y b : A} → x ≡ y → x ≡ b → y ≡ b
 known ensures found = sym ensures ∙ found
+
+-- the same where the answer was tested negated
+pub granted : {x y : Bool} → x ≡ y → not x ≡ false → y ≡ true
+granted {x} ensures found = sym ensures ∙ go x found
+  where
+    go : (x : Bool) → not x ≡ false → x ≡ true
+    go true p = refl
+    go false p = sym p
+
+pub denied : {x y : Bool} → x ≡ y → not x ≡ true → y ≡ false
+denied {x} ensures found = sym ensures ∙ go x found
+  where
+    go : (x : Bool) → not x ≡ true → x ≡ false
+    go true p = sym p
+    go false p = refl
+
+-- a choice by a test whose result is known
+pub by-test : {A : Type 0} {t b : Bool} (x y : A) → t ≡ b → cond t x y ≡ cond b x y
+by-test x y p = ap (λ t. cond t x y) p
 
 -- of two choices by one test, the first is what h makes of the second where each branch is
 pub cond-map : {A B : Type 0} (h : A → B) (t : Bool) {x y : A} {v w : B} → v ≡ h x → w ≡ h y → cond t v w ≡ h (cond t x y)

@@ -15,7 +15,7 @@ use Rattle.machine.specs.Machine.{fresh, idleThief, thiefCall}
 use Rattle.machine.specs.InRange.{inRange, thiefInRange, workerInRange}
 use Rattle.machine.specs.Obey.{machineAfter}
 use Rattle.machine.specs.Effect.{Watch, watchFresh, watched}
-use Rattle.machine.proofs.Laws.Lists.{all-getD}
+use Rattle.machine.proofs.Laws.Lists.{all-each}
 use Rattle.machine.proofs.Laws.Index.{idx, idx-in-range, idx-slot-in-range}
 use Rattle.machine.proofs.Laws.Chain.{chain-needed, chain-takeStores, takeStores}
 use Rattle.machine.proofs.Linearizable.Invariant.{InPlace, Invariant, Sound, holds, outside, raised, raised-stolen, stolen}
@@ -84,7 +84,7 @@ invariant-ranged {w = w} v ranged short =
       u .buffer .ranged,
       worker-ranged (m .worker .call) u,
     )
-    (all-getD (λ t. thiefInRange (t .call)) (m .thieves) idleThief (λ i. each i (holds (m .lock .holder) i) (v .thieves i)))
+    (all-each (λ t. thiefInRange (t .call)) (m .thieves) idleThief (λ i. each i (holds (m .lock .holder) i) (v .thieves i)))
   where
     each : (i : ℕ) (b : Bool) → InPlace b (w .machine .sizes .thieves) i (v .inside) (thiefCall (w .machine) i) → thiefInRange (thiefCall (w .machine) i) ≡ true
     each i true place = ap thiefInRange (place .0) ∙ inside-ranged (v .inside) (v .sound)

@@ -5,17 +5,18 @@ use mathlib.Core.List.{List, _∷_}
 use Prim.Native.Nat.{ℕ, _+_, _-_, _≤_, _<_}
 use native.Mathlib.Omega.{arith}
 use lib.ListN.{length, drop, length-append, length-drop, length-take}
-use Rattle.machine.specs.Types.{Index, Machine, Sizes, Slot, Store, StoreBuffer, StoreKind, Client, Tail, ThiefCall, StealLock, StealLoadHead, StealRaiseHead, StealLoadTail, StealLoadSlot, StealUnlockTask, StealRestoreHead, StealUnlockAbort, WorkerCall}
+use Rattle.machine.specs.Types.{Index, Machine, Sizes, Store, StoreBuffer, ThiefCall, StealLock, StealLoadHead, StealRaiseHead, StealLoadTail, StealLoadSlot, StealUnlockTask, StealRestoreHead, StealUnlockAbort, WorkerCall}
 use Rattle.machine.specs.Lists.{all}
-use Rattle.machine.specs.Index.{indexInRange, slotOf}
+use Rattle.machine.specs.Index.{slotOf}
 use Rattle.machine.specs.StoreBuffer.{dropOldest, oldest, pending, tailAfter}
 use Rattle.machine.specs.InRange.{storeInRange}
 use Rattle.machine.specs.Machine.{memoryLoad, workerLoad, workerTail}
 use Rattle.machine.specs.PlainQueue.{PlainQueue}
 use Rattle.machine.specs.Linearizable.{workerOwes}
 use Rattle.machine.proofs.Laws.Tests.{both-left, both-right}
-use Rattle.machine.proofs.Laws.Sizes.{Bounds}
-use Rattle.machine.proofs.Laws.Index.{idx, idx-slot-below}
+use Rattle.machine.proofs.Laws.Sizes.{SizeBounds}
+use Rattle.machine.proofs.Laws.Index.{idx, slotOf-below}
+use Rattle.machine.proofs.Laws.InRange.{tailAfter-in-range}
 use Rattle.machine.proofs.Laws.StoreBuffer.{dropOldest-pending, pending-oldest, slotsAfter-length, slotsAfter-slotAfter}
 use Rattle.machine.proofs.Laws.Chain.{Chain, Landed, SlotsWithin, chain-land, slots-land}
 use Rattle.machine.proofs.Laws.Loads.{drained, drained-workerLoad, drained-workerTail, slots-leave-one}
@@ -24,14 +25,9 @@ use Rattle.machine.proofs.Linearizable.Tasks.{shows-load}
 use Rattle.machine.proofs.Linearizable.Owed.{workerBegun-same, workerOwes-same}
 use Rattle.machine.proofs.Linearizable.Rebuild.{seen-tail}
 
-pub tail-in-range : (t : Index) (k : StoreKind) → indexInRange t ≡ true → storeInRange k ≡ true → indexInRange (tailAfter t k) ≡ true
-tail-in-range t Client h k = h
-tail-in-range t (Tail u) h k = k
-tail-in-range t (Slot i x) h k = h
-
 -- ── The pending stores ──────────────────────────────────────────────────────────────────────────────────────────────────────
 
-module _ {z : Sizes} {t : Index} {b : StoreBuffer} (v : Pending z t b) (sizes : Bounds z) (some : 0 < b .count) where
+module _ {z : Sizes} {t : Index} {b : StoreBuffer} (v : Pending z t b) (sizes : SizeBounds z) (some : 0 < b .count) where
   pub within-cells : b .count ≤ length (b .stores)
   within-cells = omega (arith, v .fits, v .cells)
 
@@ -60,7 +56,7 @@ module _ {z : Sizes} {t : Index} {b : StoreBuffer} (v : Pending z t b) (sizes : 
         fits = omega (arith, v .fits);
         cells = simp (length-append, length-drop, length-take) (omega (arith, v .fits, v .cells));
         ranged = rw (dropOldest-pending b some within-cells) (both-right (storeInRange (oldest b .kind)) _ all-ranged);
-        tail-ranged = tail-in-range t (oldest b .kind) (v .tail-ranged) (both-left (storeInRange (oldest b .kind)) _ all-ranged);
+        tail-ranged = tailAfter-in-range t (oldest b .kind) (v .tail-ranged) (both-left (storeInRange (oldest b .kind)) _ all-ranged);
       }
 
 -- ── The machine ─────────────────────────────────────────────────────────────────────────────────────────────
@@ -83,7 +79,7 @@ module _ {n : ℕ} {m : Machine} {c : WorkerCall} {p : ThiefCall} (v : Sound n m
   same-load : (k : ℕ) → workerLoad (drained m) (idx k) ≡ workerLoad m (idx k)
   same-load k =
       drained-workerLoad m some (within-cells (v .buffer) (v .sizes) some) (idx k)
-      (omega (arith, idx-slot-below (m .sizes .slots) k (omega (arith, v .sizes .slots-least)), v .memory, v .sizes .slots-most))
+      (omega (arith, slotOf-below (m .sizes .slots) (idx k) (omega (arith, v .sizes .slots-least)), v .memory, v .sizes .slots-most))
 
   abbrev pub drained-sound : Sound (n + 1) (drained m) c p
   drained-sound =
@@ -131,7 +127,7 @@ module _ {n : ℕ} {m : Machine} {c : WorkerCall} {p : ThiefCall} (v : Sound n m
       subst (SlotsWithin lo (v .buffer .bound)) (first (v .buffer) (v .sizes) some)
       (subst (λ p. Unwritten p lo (v .buffer .bound) (pending (m .buffer))) inside (g .unwritten))
       in
-      let there = idx-slot-below slots lo (omega (arith, v .sizes .slots-least)) in
+      let there = slotOf-below slots (idx lo) (omega (arith, v .sizes .slots-least)) in
       let load : memoryLoad (drained m) (idx lo) ≡ memoryLoad m (idx lo) =
       slotsAfter-slotAfter slots (slotOf slots (idx lo)) (m .slots) (oldest (m .buffer) .kind) (omega (arith, v .memory, v .sizes .slots-most))
       ∙ slots-leave-one slots lo (memoryLoad m (idx lo)) (omega (arith, v .head .floor)) (g .below) above

@@ -22,7 +22,7 @@ use Rattle.machine.specs.Machine.{thiefCall, workerLoad, workerTail}
 use Rattle.machine.specs.PlainQueue.{PlainQueue, StoredTask}
 use Rattle.machine.specs.Effect.{Begun, nothing, aPut, aTake, aSteal, PartyCall, Watch, worker, thief}
 use Rattle.machine.specs.Linearizable.{answersTo, thiefOwes, workerOwes}
-use Rattle.machine.proofs.Laws.Sizes.{Bounds}
+use Rattle.machine.proofs.Laws.Sizes.{SizeBounds}
 use Rattle.machine.proofs.Laws.Index.{idx}
 use Rattle.machine.proofs.Laws.Chain.{Chain, SlotsWithin}
 
@@ -272,7 +272,7 @@ asked taken spacing since = cond taken (spacing - since) 0
 
 -- A machine after n entries, whichever margin is set, with the worker's call c, and p the call of the thief inside.
 pub record Sound (n : ℕ) (m : Machine) (c : WorkerCall) (p : ThiefCall) : Type 0 where
-  pub sizes : Bounds (m .sizes)
+  pub sizes : SizeBounds (m .sizes)
   pub memory : length (m .slots) ≡ 256
   pub buffer : Pending (m .sizes) (m .tail) (m .buffer)
   pub head : Heading (m .sizes .start) (m .head) p

@@ -16,7 +16,7 @@ use Rattle.machine.specs.PlainQueue.{Told, PlainQueue, StoredTask}
 use Rattle.machine.specs.Effect.{Effect}
 use Rattle.machine.specs.Linearizable.{workerOwes}
 use Rattle.machine.proofs.Laws.Lists.{all-snoc}
-use Rattle.machine.proofs.Laws.Sizes.{Bounds}
+use Rattle.machine.proofs.Laws.Sizes.{SizeBounds}
 use Rattle.machine.proofs.Laws.Index.{idx}
 use Rattle.machine.proofs.Laws.StoreBuffer.{push-pending}
 use Rattle.machine.proofs.Laws.Chain.{Chain, SlotsWithin, chain-push, chain-raise, chain-tail, slots-append}
@@ -32,7 +32,7 @@ module _ {z : Sizes} {t : Index} {b : StoreBuffer} (v : Pending z t b) where
   pub seen-tail : newestTail t b ≡ idx (v .seen)
   seen-tail = ap (λ i. newestTail i b) (v .tail-is) ∙ chain-tail (v .chain)
 
-  module _ (sizes : Bounds z) (room : b .count < z .buffer) where
+  module _ (sizes : SizeBounds z) (room : b .count < z .buffer) where
     pub inside-cells : b .count < length (b .stores)
     inside-cells = omega arith
 

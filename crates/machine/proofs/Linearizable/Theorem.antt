@@ -19,7 +19,7 @@ use Rattle.machine.specs.Effect.{Event, Party, worker, thief, Watch, cal
 use Rattle.machine.specs.Linearizable.{Demand3, answering, answersTo, isNothing, noCallRuns, owes, parties, standingInSlots, stepsUp, thiefOwes}
 use Rattle.machine.proofs.Laws.Tests.{both-left, both-right}
 use Rattle.machine.proofs.Laws.Lists.{all-map, all-upTo}
-use Rattle.machine.proofs.Laws.Sizes.{Bounds, bounds}
+use Rattle.machine.proofs.Laws.Sizes.{SizeBounds, sizes-bounds}
 use Rattle.machine.proofs.Laws.Index.{idx, idx-as, idx-in-range, idx-minus, idx-of, idx-plus}
 use Rattle.machine.proofs.Laws.Obey.{answers-at-steps}
 use Rattle.machine.proofs.Laws.Chain.{none}
@@ -40,7 +40,7 @@ idle-at s i = sym (ap (λ t. t .call) (getD-all 8 i))
     getD-all (suc n) zero = refl
     getD-all (suc n) (suc i) = getD-all n i
 
-abbrev fresh-sound : (s : Sizes) → Bounds s → Sound 0 (fresh s) WorkerCall.Idle ThiefCall.Idle
+abbrev fresh-sound : (s : Sizes) → SizeBounds s → Sound 0 (fresh s) WorkerCall.Idle ThiefCall.Idle
 fresh-sound s b =
     record {
       sizes = b;
@@ -84,7 +84,7 @@ fresh-invariant s ranged =
       inside = ThiefCall.Idle;
       sizes-are = refl;
       long = refl;
-      sound = fresh-sound s (bounds s ranged);
+      sound = fresh-sound s (sizes-bounds s ranged);
       thieves = λ i. ap outside (sym (idle-at s i));
       agrees = λ enough.
           record { count = count; sum = sum; room = room; below = zero-le; shows = λ k none. absurd (not-suc-le-zero none); unwritten = tt };

@@ -1,19 +1,20 @@
 -- `StoreBuffer::in_range` meets its contract. The loop's invariant: the answer is that for the first i stores, all of them pending. The
 -- measure is what is left of the array.
-use mathlib.Core.Path.{_≡_, refl, ap, sym, _∙_}
-use Prim.Native.Nat.{_≤_, _-_, zero-le}
+use mathlib.Core.Path.{_≡_, refl, sym}
+use Prim.Native.Nat.{_-_, zero-le}
 use native.Mathlib.Omega.{arith}
-use lib.ListN.{length, take, length-map}
+use lib.ListN.{length, length-map}
 use borrow.Author.Needs.{needs}
 use Rattle.machine.specs.InRange.{storeInRange}
 use Rattle.machine.specs.Lists.{all}
 use Rattle.machine.specs.StoreBuffer.{clientStore}
-use Rattle.machine.proofs.Laws.Lists.{all-more, take-whole}
+use Rattle.machine.proofs.Laws.Lists.{all-more}
+use Rattle.machine.proofs.Laws.StoreBuffer.{Found, found-pending, found-whole}
 use Rattle.machine.proofs.store_buffer.StoreBuffer.in_range.Statement.{statement}
 use Rattle.machine.proofs.store_buffer.StoreBuffer.in_range.Tie as tie
 
 abbrev Inv-loop : tie.InvT-loop
-Inv-loop stores count ok₀ i₀ ok i = (ok ≡ all (λ s. storeInRange (s .kind)) (take i stores)) × (i ≤ count) × (i ≤ 64)
+Inv-loop stores count ok₀ i₀ ok i = Found (all (λ s. storeInRange (s .kind))) stores count ok i
 
 abbrev μ-loop : tie.MeasureT-loop
 μ-loop stores count ok₀ i₀ ok i = 64 - i
@@ -23,8 +24,9 @@ loop-holds c = (refl, zero-le, zero-le)
 
 returns : tie.Need-returns Inv-loop μ-loop
 returns c =
-    let same : c .before .before .loop .i ≡ c .before .before .before .before .args .self .count = omega arith in
-    rw (← same) (c .before .before .loop .inv .0)
+    let start = c .before .before .before .before in
+    let turn = c .before .before .loop in
+    found-pending (all (λ s. storeInRange (s .kind))) (start .args .self .stores) (start .args .self .count) (turn .ok) (turn .i) (turn .inv) (c .if1 .taken)
 
 mul-store : tie.Need-mul-store Inv-loop μ-loop
 mul-store c = omega arith
@@ -55,8 +57,9 @@ loop-again c =
 returns-2 : tie.Need-returns-2 Inv-loop μ-loop
 returns-2 c =
     let start = c .before .before .before in
+    let turn = c .before .loop in
     let long : length (start .args .self .stores) ≡ 64 = simp length-map at (start .good .0 .1 .1 .0 .1 .0 .1) in
-    c .before .loop .inv .0 ∙ ap (all (λ s. storeInRange (s .kind))) (take-whole (start .args .self .stores) (c .before .loop .i) (start .args .self .count) (omega arith) (omega arith))
+    found-whole (all (λ s. storeInRange (s .kind))) (start .args .self .stores) (start .args .self .count) (turn .ok) (turn .i) long (turn .inv) (omega arith)
 
 pub in-range-spec : {M : Type 1} → statement M
 in-range-spec =

@@ -1,0 +1,14 @@
+-- `Machine::steal_lock` meets its contract, by whether the lock is free.
+use borrow.Author.Needs.{needs}
+use Rattle.machine.proofs.Laws.Tests.{known}
+use Rattle.machine.proofs.machine.Machine.steal_lock.Statement.{statement}
+use Rattle.machine.proofs.machine.Machine.steal_lock.Tie as tie
+
+returns : tie.Need-returns
+returns c = simp (c .thief-comes-to .ensures, c .before .with-lock .ensures, known (c .before .before .before .is-free .ensures) (c .before .before .if1 .taken))
+
+returns-2 : tie.Need-returns-2
+returns-2 c = simp (known (c .before .is-free .ensures) (c .if1 .left))
+
+pub steal-lock-spec : {M : Type 1} → statement M
+steal-lock-spec = tie.close (tie.spec (λ c κs. search needs) (λ c κs. search needs) (λ c κs. search needs) returns returns-2)

@@ -1,0 +1,10 @@
+-- `Machine::steal_unlock` meets its contract: the calls are composed as the definition is.
+use borrow.Author.Needs.{needs}
+use Rattle.machine.proofs.machine.Machine.steal_unlock.Statement.{statement}
+use Rattle.machine.proofs.machine.Machine.steal_unlock.Tie as tie
+
+returns : tie.Need-returns
+returns c = simp (c .thief-comes-to .ensures, c .before .with-lock .ensures)
+
+pub steal-unlock-spec : {M : Type 1} → statement M
+steal-unlock-spec = tie.close (tie.spec (λ c κs. search needs) (λ c κs. search needs) returns)

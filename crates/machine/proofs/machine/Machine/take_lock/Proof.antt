@@ -1,0 +1,16 @@
+-- `Machine::take_lock` meets its contract, by its test.
+use borrow.Author.Needs.{needs}
+use Rattle.machine.proofs.Laws.Tests.{known}
+use Rattle.machine.proofs.machine.Machine.take_lock.Statement.{statement}
+use Rattle.machine.proofs.machine.Machine.take_lock.Tie as tie
+
+returns : tie.Need-returns
+returns c =
+    let met = known (c .before .before .before .both .ensures) (c .before .before .if1 .taken) in
+    simp (c .worker-comes-to .ensures, c .before .with-lock .ensures, simp (c .before .before .before .before .before .is-free .ensures) at met)
+
+returns-2 : tie.Need-returns-2
+returns-2 c = let unmet = known (c .before .both .ensures) (c .if1 .left) in simp (simp (c .before .before .before .is-free .ensures) at unmet)
+
+pub take-lock-spec : {M : Type 1} → statement M
+take-lock-spec = tie.close (tie.spec (λ c κs. search needs) (λ c κs. search needs) (λ c κs. search needs) (λ c κs. search needs) returns returns-2)
