@@ -10,10 +10,10 @@ ghost use mathlib.Core.Path.{_≡_};
 ghost use mathlib.Core.Bool.{true};
 ghost use Rattle.machine.specs.Index.{indexInRange, slotIndexInRange};
 ghost use Rattle.machine.specs.InRange.{inRange, workerInRange};
-ghost use Rattle.machine.specs.Machine.{done, hasRoom, needing};
+ghost use Rattle.machine.specs.Machine.{done, hasRoom, needing, nothingPending};
 ghost use Rattle.machine.specs.Obey.{obey};
-ghost use Rattle.machine.specs.Types.{WorkerStep};
-ghost use Rattle.machine.specs.Update.{pushed, withWorker};
+ghost use Rattle.machine.specs.Types.{Nobody, WorkerStep};
+ghost use Rattle.machine.specs.Update.{pushed, withLock, withWorker};
 ghost use Rattle.machine.specs.Worker.{
   putLoadHead,
   putStoreSlot,
@@ -128,6 +128,23 @@ impl Machine {
             let store = Store { kind: kind };
             let buffer = self.buffer;
             self.buffer = buffer.push(store);
+            return self.worker_comes_to(outcome, call);
+        }
+        Done {
+            machine: self,
+            outcome: Outcome::Wait,
+        }
+    }
+
+    // A step that frees the lock, for which nothing may be pending.
+    fn worker_unlocks(mut self, outcome: Outcome, call: WorkerCall) -> Done
+        ensures { λ r. ⌜
+            r
+            ≡ needing (nothingPending self) self (done outcome (withWorker call (withLock Nobody self)))
+            ⌝ }
+    {
+        if self.buffer.count == 0 {
+            self = self.with_lock(Holder::Nobody);
             return self.worker_comes_to(outcome, call);
         }
         Done {
@@ -251,31 +268,17 @@ impl Machine {
     }
 
     // Take, step 6 where the task is gone: unlock.
-    fn take_unlock_empty(mut self) -> Done
+    fn take_unlock_empty(self) -> Done
         ensures { λ r. ⌜ r ≡ takeUnlockEmpty self ⌝ }
     {
-        if self.buffer.count == 0 {
-            self = self.with_lock(Holder::Nobody);
-            return self.worker_comes_to(Outcome::Empty, WorkerCall::Idle);
-        }
-        Done {
-            machine: self,
-            outcome: Outcome::Wait,
-        }
+        self.worker_unlocks(Outcome::Empty, WorkerCall::Idle)
     }
 
     // Take, step 5 where the task is still there: unlock.
-    fn take_unlock_task(mut self, t: Index) -> Done
+    fn take_unlock_task(self, t: Index) -> Done
         ensures { λ r. ⌜ r ≡ takeUnlockTask t self ⌝ }
     {
-        if self.buffer.count == 0 {
-            self = self.with_lock(Holder::Nobody);
-            return self.worker_comes_to(Outcome::Moved, WorkerCall::TakeLoadLastSlot(t));
-        }
-        Done {
-            machine: self,
-            outcome: Outcome::Wait,
-        }
+        self.worker_unlocks(Outcome::Moved, WorkerCall::TakeLoadLastSlot(t))
     }
 
     // The worker's call makes its next step.
