@@ -26,8 +26,8 @@ onlyWhere there full = cond there (decided full) none
 abbrev pub isFullOutcome : Outcome → Bool
 isFullOutcome o = eqb (numberOf o) (numberOf Full)
 
--- a put at step 3, or at step 1 where it ends there, which is FULL or END; a take at step 2 where t ≥ h, which is the tail that its step 1
--- has stored, otherwise at step 4; the outcome is that of the step
+-- A put takes effect at step 3, or at step 1 where it ends there, which is FULL or END; a take at step 2 where head is not above the tail
+-- that its step 1 has stored, otherwise at step 4. The outcome is that of the step.
 abbrev pub workerEffect : Outcome → Machine → WorkerCall → Effect
 workerEffect o m WorkerCall.Idle = none
 workerEffect o m (PutLoadHead x) = onlyWhere (isAnswer o) (isFullOutcome o)

@@ -39,7 +39,8 @@ thiefInRange (StealUnlockTask x) = true
 thiefInRange (StealRestoreHead h) = indexInRange h
 thiefInRange StealUnlockAbort = true
 
--- the sizes, how many stores are pending, the spacing count, and every index that the machine holds
+-- the sizes, how many stores are pending, the spacing count, and every index in memory, in a pending store or in a call; cells past the
+-- pending stores hold nothing
 unfoldable pub inRange : Machine → Bool
 inRange m =
     sizesInRange (m .sizes)

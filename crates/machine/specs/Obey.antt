@@ -42,7 +42,7 @@ thiefIsThere s WorkerStep = true
 thiefIsThere s (BeginSteal i) = ltb i (s .thieves)
 thiefIsThere s (ThiefStep i) = ltb i (s .thieves)
 
--- 7 comes first for a machine out of range or a thief that is not there; only otherwise is the entry looked at
+-- 7 comes first, where the machine is not in range or the entry's thief is not there; only otherwise is the entry obeyed
 abbrev pub obey : Machine → Entry → Done
 obey m e = cond (inRange m && thiefIsThere (m .sizes) e) (obeyInRange m e) (done Wait m)
 

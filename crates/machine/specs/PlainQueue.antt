@@ -23,7 +23,7 @@ pub record PlainQueue : Type 0 where
 abbrev pub emptyQueue : ℕ → PlainQueue
 emptyQueue start = record { tasks = []; sum = start; stored = 0 }
 
--- What the queue is told: a call; with a put its number, and with a put and a steal whether the step has decided against it.
+-- What the queue is told: a call; with a put its number and whether the step says FULL, with a steal whether it says ABORT.
 pub data Told : Type 0 where
   toldPut : ℕ → Bool → Told
   toldTake : Told

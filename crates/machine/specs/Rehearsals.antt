@@ -1,32 +1,34 @@
 -- The rehearsals of the paper, M1 to M9, as one table over the definitions, with rows for the example under "The program's lines", for
--- the lines of "Broken thread" that a run can show, for each limit of the plain queue, and for machines that no run reaches.
+-- the lines of "Broken thread" that a run can show, for each limit of the plain queue, for each refusal in its order, and for machines that no
+-- run of a schedule reaches.
 -- `proofs/Rehearsals.antt` proves one fact: every row holds.
 use mathlib.Core.Bool.{Bool, true, not, _&&_}
 use mathlib.Core.List.{List, [], _∷_, _++_}
 use Prim.Native.Nat.{ℕ, _-_}
 use lib.Dec.{eqb, ltb}
 use lib.IntN.{ℤ, pos, negsuc}
-use lib.ListN.{length, replicate}
-use Rattle.machine.specs.Types.{Entry, Drain, ClientStore, BeginPut, BeginTake, WorkerStep, BeginSteal, ThiefStep, Machine, Outcome, Moved, Place, Early, Wait, Stored, Task, Empty, Abort, Full, End, Sizes, PutStoreSlot, PutStoreTail}
+use lib.ListN.{getD, length, replicate}
+use Rattle.machine.specs.Types.{Entry, Drain, ClientStore, BeginPut, BeginTake, WorkerStep, BeginSteal, ThiefStep, Machine, Outcome, Moved, Place, Early, Wait, Stored, Task, Empty, Abort, Full, End, Sizes, PutStoreSlot, PutStoreTail, StealLoadTail, TakeLoadHead, TakeLoadSlot}
 use Rattle.machine.specs.Lists.{all, gather, occurrences, upFrom}
 use Rattle.machine.specs.Sizes.{neededMargin}
 use Rattle.machine.specs.Outcome.{numberOf, valueOf}
 use Rattle.machine.specs.Index.{eqZ}
-use Rattle.machine.specs.StoreBuffer.{emptyBuffer}
+use Rattle.machine.specs.StoreBuffer.{clientStore, emptyBuffer, slotStore}
 use Rattle.machine.specs.Machine.{fresh}
-use Rattle.machine.specs.Update.{withMemory, withSpacing, withWorker}
+use Rattle.machine.specs.Update.{pushed, withBuffer, withHead, withMemory, withSpacing, withThief, withWorker}
 use Rattle.machine.specs.InRange.{inRange}
 use Rattle.machine.specs.Obey.{obey}
 use Rattle.machine.specs.Effect.{Watch, watchAfter, watchFresh}
 
 -- ── Rows ────────────────────────────────────────────────────────────────────────────────────────────────────────────────────
 
--- A line of a story: an entry with what it comes to, or a look at memory's head, at memory's tail, at the spacing count or at how many
--- tasks stand.
+-- A line of a story: an entry with what it comes to, or a look at memory's head, at memory's tail, at what one of memory's slots holds, at
+-- the spacing count or at how many tasks stand.
 pub data Line : Type 0 where
   does : Entry → Outcome → Line
   headIs : ℤ → Line
   tailIs : ℤ → Line
+  slotIs : ℕ → ℕ → Line
   countIs : ℕ → Line
   tasksStand : ℕ → Line
 
@@ -37,6 +39,8 @@ pub data Row : Type 0 where
   story : Sizes → List Line → Row
   -- a machine in range that the entry, with this outcome, leads out of range, so that every next operation answers 7
   brink : Machine → Entry → Outcome → Row
+  -- a machine out of range: every operation answers 7
+  beyond : Machine → Row
 
 abbrev pub sameOutcome : Outcome → Outcome → Bool
 sameOutcome o p = eqb (numberOf o) (numberOf p) && eqb (valueOf o) (valueOf p)
@@ -44,11 +48,16 @@ sameOutcome o p = eqb (numberOf o) (numberOf p) && eqb (valueOf o) (valueOf p)
 abbrev pub oneOfEach : List Entry
 oneOfEach = Drain ∷ ClientStore ∷ BeginPut 1 ∷ BeginTake ∷ WorkerStep ∷ BeginSteal 0 ∷ ThiefStep 0 ∷ []
 
+-- the machine is out of range, and so every operation on it answers 7
+abbrev pub allWait : Machine → Bool
+allWait m = not (inRange m) && all (λ e. sameOutcome (obey m e .outcome) Wait) oneOfEach
+
 abbrev pub comesTrue : Watch → List Line → Bool
 comesTrue w [] = true
 comesTrue w (does e o ∷ l) = sameOutcome (obey (w .machine) e .outcome) o && comesTrue (watchAfter w e) l
 comesTrue w (headIs z ∷ l) = eqZ (w .machine .head .at) z && comesTrue w l
 comesTrue w (tailIs z ∷ l) = eqZ (w .machine .tail .at) z && comesTrue w l
+comesTrue w (slotIs k x ∷ l) = eqb (getD (w .machine .slots) k 0) x && comesTrue w l
 comesTrue w (countIs n ∷ l) = eqb (w .machine .since) n && comesTrue w l
 comesTrue w (tasksStand n ∷ l) = eqb (length (w .queue .tasks)) n && comesTrue w l
 
@@ -56,16 +65,15 @@ abbrev pub holds : Row → Bool
 holds (margin b s n) = eqb (neededMargin b s) n
 holds (story s l) = comesTrue (watchFresh s) l
 holds (brink m e o) =
-    inRange m
-    && sameOutcome (obey m e .outcome) o
-    && not (inRange (obey m e .machine))
-    && all (λ f. sameOutcome (obey (obey m e .machine) f .outcome) Wait) oneOfEach
+    inRange m && sameOutcome (obey m e .outcome) o && allWait (obey m e .machine)
+holds (beyond m) = allWait m
 
 -- the entries of a story
 abbrev pub entryIn : Line → List Entry
 entryIn (does e o) = e ∷ []
 entryIn (headIs z) = []
 entryIn (tailIs z) = []
+entryIn (slotIs k x) = []
 entryIn (countIs n) = []
 entryIn (tasksStand n) = []
 
@@ -77,6 +85,7 @@ abbrev pub numberIn : Line → List ℕ
 numberIn (does e o) = numberOf o ∷ []
 numberIn (headIs z) = []
 numberIn (tailIs z) = []
+numberIn (slotIs k x) = []
 numberIn (countIs n) = []
 numberIn (tasksStand n) = []
 
@@ -160,12 +169,12 @@ m5 made =
     ++ tasksStand 2 ∷ putEnds 3 Full
     ++ thiefMoves (5 - made) ++ thiefGets Abort ++ headIs (pos 0) ∷ []
 
--- M6: a take from an empty queue; the tail goes to −1 and back. Lock and unlock wait for the drain.
+-- M6: a take from an empty queue lowers the tail to −1, and raises it again. Lock and unlock wait for the drain; then the lock is free.
 abbrev pub m6 : List Line
 m6 =
     does BeginTake Moved ∷ workerMoves 2 ++ workerGets Wait ++ drains 1
     ++ tailIs (negsuc 0) ∷ workerMoves 3 ++ workerGets Wait ++ drains 1
-    ++ tailIs (pos 0) ∷ workerGets Empty
+    ++ tailIs (pos 0) ∷ workerGets Empty ++ steals Abort
 
 -- M7: the tail's greatest value, and the one before it
 abbrev pub m7 : List Line
@@ -181,13 +190,13 @@ m8 =
     ++ countIs 1 ∷ does BeginTake Moved ∷ countIs 0 ∷ []
 
 -- M9: one task, and the lock is a thief's when the worker wants it; the worker's tail store has drained, so the lock is all that it
--- waits for
+-- waits for, and free again afterwards
 abbrev pub m9 : List Line
 m9 =
     puts 7 ++ drains 2 ++ does (BeginSteal 0) Moved ∷ thiefMoves 3
     ++ headIs (pos 1) ∷ does BeginTake Moved ∷ workerMoves 2 ++ drains 1
     ++ workerGets Wait ++ thiefMoves 2 ++ thiefGets Abort
-    ++ workerMoves 3 ++ workerGets (Task 7)
+    ++ workerMoves 3 ++ workerGets (Task 7) ++ steals Abort
 
 -- the example under "The program's lines"
 abbrev pub exampleLines : List Line
@@ -233,13 +242,40 @@ lastTaskStanding = filled 3 ++ takes 3 ++ takes 2 ++ tasksStand 1 ∷ steals (Ta
 
 -- of 4 slots, index 4 lies in slot 0 again: task 5 is put there, and taken or stolen from there
 abbrev pub aroundTheSlots : List Line
-aroundTheSlots = filled 3 ++ steals (Task 1) ++ steals (Task 2) ++ puts 4 ++ drains 2 ++ puts 5 ++ drains 2
+aroundTheSlots =
+    slotIs 0 0 ∷ filled 3 ++ slotIs 0 1 ∷ steals (Task 1) ++ steals (Task 2) ++ puts 4 ++ drains 2
+    ++ slotIs 3 4 ∷ puts 5 ++ drains 2
+    ++ slotIs 0 5 ∷ []
 
 abbrev pub takenFromSlot0 : List Line
 takenFromSlot0 = aroundTheSlots ++ takes 5
 
 abbrev pub stolenFromSlot0 : List Line
 stolenFromSlot0 = aroundTheSlots ++ steals (Task 3) ++ puts 6 ++ drains 2 ++ steals (Task 4) ++ steals (Task 5)
+
+-- a margin of 0 is the buffer size, not the needed margin: a steal just beyond it, and one within it
+abbrev pub beyondBuffer : List Line
+beyondBuffer = filled 3 ++ steals (Task 1) ++ steals Abort
+
+-- the second take is one client store early, of two that are asked for
+abbrev pub twoStoresApart : List Line
+twoStoresApart = puts 1 ++ puts 2 ++ takes 2 ++ clientStores 1 ++ does BeginTake Early ∷ clientStores 1 ++ takes 1
+
+-- 7 WAIT for a place in the list: a client store, a put's two stores, and a take's first
+abbrev pub noRoom : List Line
+noRoom =
+    clientStores 1 ++ does ClientStore Wait ∷ does (BeginPut 1) Moved ∷ workerMoves 1
+    ++ workerGets Wait ++ drains 1 ++ workerMoves 1
+    ++ workerGets Wait ++ drains 1 ++ workerGets Stored
+    ++ does BeginTake Moved ∷ workerGets Wait ++ drains 1 ++ workerMoves 1
+
+-- 5 comes before 7: no client store within a call, whether or not the list has a place
+abbrev pub placeBeforeWait : List Line
+placeBeforeWait = clientStores 1 ++ does (BeginPut 1) Moved ∷ does ClientStore Place ∷ []
+
+-- 5 comes before 6: no beginning within a call, whether or not a take is early
+abbrev pub placeBeforeEarly : List Line
+placeBeforeEarly = does BeginTake Moved ∷ does BeginTake Place ∷ []
 
 -- 5 PLACE, each way; two thieves, of whom one waits for the lock; a third is not there
 abbrev pub outOfPlace : List Line
@@ -286,6 +322,11 @@ stories =
     ∷ story (sizes 4 2 1 1 1 0) takenFromSlot0
     ∷ story (sizes 4 2 1 1 1 0) stolenFromSlot0
     ∷ story (sizes 4 2 0 0 1 0) m3
+    ∷ story (sizes 4 2 1 0 1 0) beyondBuffer
+    ∷ story (sizes 4 8 2 3 1 0) twoStoresApart
+    ∷ story (sizes 4 1 0 1 1 0) noRoom
+    ∷ story (sizes 4 1 0 1 1 0) placeBeforeWait
+    ∷ story (sizes 4 1 1 1 1 0) placeBeforeEarly
     ∷ story (sizes 4 2 0 2 2 0) outOfPlace
     ∷ []
 
@@ -300,8 +341,23 @@ brinks =
     ∷ brink (withTail (negsuc 0) (withWorker (PutStoreSlot 5) (fresh m3Sizes))) WorkerStep Moved
     ∷ []
 
+-- one part out of range: a size, how many stores are pending, the spacing count, head, the tail, a pending store, the index of a call
+abbrev pub beyonds : List Row
+beyonds =
+    beyond (fresh (sizes 1 2 0 2 1 0))
+    ∷ beyond (fresh (sizes 4 2 0 65 1 0))
+    ∷ beyond (withBuffer (record { stores = replicate 64 clientStore; count = 3 }) (fresh m3Sizes))
+    ∷ beyond (withSpacing 4097 true (fresh m3Sizes))
+    ∷ beyond (withHead (record { at = negsuc 1 }) (fresh m3Sizes))
+    ∷ beyond (withTail (pos 2147483649) (fresh m3Sizes))
+    ∷ beyond (pushed (slotStore (record { at = negsuc 0 }) 1) (fresh m3Sizes))
+    ∷ beyond (withWorker (TakeLoadHead (record { at = negsuc 1 })) (fresh m3Sizes))
+    ∷ beyond (withWorker (TakeLoadSlot (record { at = negsuc 0 })) (fresh m3Sizes))
+    ∷ beyond (withThief 7 (StealLoadTail (record { at = pos 2147483649 })) (fresh m3Sizes))
+    ∷ []
+
 abbrev pub rehearsals : List Row
-rehearsals = m1 ++ stories ++ brinks
+rehearsals = m1 ++ stories ++ brinks ++ beyonds
 
 -- ── Every number ────────────────────────────────────────────────────────────────────────────────────────────────────────────
 
@@ -310,6 +366,7 @@ abbrev pub numbersIn : Row → List ℕ
 numbersIn (margin b s n) = []
 numbersIn (story s l) = gather numberIn l
 numbersIn (brink m e o) = numberOf o ∷ []
+numbersIn (beyond m) = []
 
 -- each number that an entry can come to is in the table
 abbrev pub everyNumberShown : Bool

@@ -1,7 +1,7 @@
 -- Numbers of tasks are only carried. Renders, of "Demand 3's plain queue", that a task is known by its put and not by its number, for the
 -- machine's answers: where the puts of a list are numbered anew, the outcomes are those of the list, numbered anew. (0 stays
--- 0, since slots hold 0 at first.) So every list has the outcomes of the list that gives each put a number of its own, none of them 0; in
--- that list an answer's number names one put.
+-- 0, since slots hold 0 at first.) So every list has the outcomes of the list that gives each put a number of its own, none of them 0, numbered
+-- back; and in that list an answer's number names one put.
 use mathlib.Core.Path.{_≡_}
 use mathlib.Core.List.{List, map}
 use Prim.Native.Nat.{ℕ}
