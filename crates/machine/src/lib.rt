@@ -15,8 +15,9 @@
 // - `entry`: the seven kinds of entry;
 // - `index`: a position of the queue, a signed number that never wraps;
 // - `store_buffer`: the pending stores;
-// - `worker`, `thief`: the calls in progress, one case for each step that may be next;
-// - `machine`: memory, lock, store buffer and calls together, and whether all of it is in range.
+// - `worker`, `thief`: the calls in progress, one case for each step that may be next, and each step;
+// - `machine`: memory, lock, store buffer and calls together, whether all of it is in range, and the operations: the fresh
+//   machine, one for each kind of entry (the two that make a step are with the steps), and `obey` for any of them.
 mod boolean;
 mod entry;
 mod index;
