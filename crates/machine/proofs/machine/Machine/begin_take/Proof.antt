@@ -1,24 +1,34 @@
 -- `Machine::begin_take` meets its contract, by its tests.
-use mathlib.Core.Path.{ap, sym, _∙_}
+use mathlib.Core.Path.{ap, sym, _∙_, _≡_}
 use mathlib.Core.Bool.{true, _&&_}
 use borrow.Author.Needs.{needs}
 use Rattle.machine.specs.Types.{BeginTake}
+use Rattle.machine.specs.InRange.{inRange}
+use Rattle.machine.specs.Obey.{obey, obeyInRange}
 use Rattle.machine.proofs.Laws.Obey.{obey-by}
 use Rattle.machine.proofs.Laws.Tests.{by-test, denied, granted, known}
 use Rattle.machine.proofs.machine.Machine.begin_take.Statement.{statement}
 use Rattle.machine.proofs.machine.Machine.begin_take.Tie as tie
 
+-- Where the machine has been found in range: that it is, and that the entry is looked at.
+
+ready : (c : tie.Else1) → inRange (c .before .before .args .self) ≡ true
+ready c = granted (c .before .in-range .ensures) (c .if1 .left)
+
+obeyed : (c : tie.Else1) → obey (c .before .before .args .self) BeginTake ≡ obeyInRange (c .before .before .args .self) BeginTake
+obeyed c = obey-by (c .before .before .args .self) BeginTake (ap (λ t. t && true) (ready c))
+
 returns : tie.Need-returns
 returns c = sym (obey-by (c .before .before .args .self) BeginTake (ap (λ t. t && true) (denied (c .before .in-range .ensures) (c .if1 .taken))))
 
 returns-2 : tie.Need-returns-2
-returns-2 c = sym (obey-by (c .before .before .before .before .args .self) BeginTake (ap (λ t. t && true) (granted (c .before .before .before .in-range .ensures) (c .before .before .if1 .left))) ∙ by-test _ _ (known (c .before .worker-runs .ensures) (c .if2 .taken)))
+returns-2 c = sym (obeyed (c .before .before) ∙ by-test _ _ (known (c .before .worker-runs .ensures) (c .if2 .taken)))
 
 returns-3 : tie.Need-returns-3
-returns-3 c = sym (obey-by (c .before .before .before .before .before .before .before .args .self) BeginTake (ap (λ t. t && true) (granted (c .before .before .before .before .before .before .in-range .ensures) (c .before .before .before .before .before .if1 .left))) ∙ by-test _ _ (known (c .before .before .before .before .worker-runs .ensures) (c .before .before .before .if2 .left)) ∙ by-test _ _ (known (c .before .both .ensures) (c .if3 .taken)))
+returns-3 c = sym (obeyed (c .before .before .before .before .before) ∙ by-test _ _ (known (c .before .before .before .before .worker-runs .ensures) (c .before .before .before .if2 .left)) ∙ by-test _ _ (known (c .before .both .ensures) (c .if3 .taken)))
 
 returns-4 : tie.Need-returns-4
-returns-4 c = c .worker-comes-to .ensures ∙ sym (obey-by (c .before .before .before .before .before .before .before .before .args .self) BeginTake (ap (λ t. t && true) (granted (c .before .before .before .before .before .before .before .in-range .ensures) (c .before .before .before .before .before .before .if1 .left))) ∙ by-test _ _ (known (c .before .before .before .before .before .worker-runs .ensures) (c .before .before .before .before .if2 .left)) ∙ by-test _ _ (known (c .before .before .both .ensures) (c .before .if3 .left)))
+returns-4 c = c .worker-comes-to .ensures ∙ sym (obeyed (c .before .before .before .before .before .before) ∙ by-test _ _ (known (c .before .before .before .before .before .worker-runs .ensures) (c .before .before .before .before .if2 .left)) ∙ by-test _ _ (known (c .before .before .both .ensures) (c .before .if3 .left)))
 
 pub begin-take-spec : {M : Type 1} → statement M
 begin-take-spec = tie.close (tie.spec (λ c κs. search needs) returns (λ c κs. search needs) returns-2 (λ c κs. search needs) returns-3 (λ c κs. search needs) returns-4)

@@ -1,42 +1,50 @@
 -- `Machine::drain` meets its contract, by its tests. The oldest of some stores of a machine in range is in range.
+use mathlib.Core.Path.{ap, sym, _∙_, _≡_}
+use mathlib.Core.Bool.{not, true, _&&_}
 use native.Mathlib.Omega.{arith}
 use borrow.Author.Needs.{needs}
 use borrow.Author.Tests.{eq-eqb, ne-eqb}
+use Rattle.machine.specs.Types.{Drain}
+use Rattle.machine.specs.InRange.{inRange}
+use Rattle.machine.specs.Obey.{obey, obeyInRange}
 use Rattle.machine.proofs.Laws.InRange.{bounds, oldest-in-range}
-use Rattle.machine.proofs.Laws.Tests.{denied, granted}
+use Rattle.machine.proofs.Laws.Obey.{obey-by}
+use Rattle.machine.proofs.Laws.Tests.{by-test, denied, granted}
 use Rattle.machine.proofs.machine.Machine.drain.Statement.{statement}
 use Rattle.machine.proofs.machine.Machine.drain.Tie as tie
 
+-- Where the machine has been found in range: that it is, and that the entry is looked at.
+
+ready : (c : tie.Else1) → inRange (c .before .before .args .self) ≡ true
+ready c = granted (c .before .in-range .ensures) (c .if1 .left)
+
+obeyed : (c : tie.Else1) → obey (c .before .before .args .self) Drain ≡ obeyInRange (c .before .before .args .self) Drain
+obeyed c = obey-by (c .before .before .args .self) Drain (ap (λ t. t && true) (ready c))
+
 returns : tie.Need-returns
-returns c = simp (denied (c .before .in-range .ensures) (c .if1 .taken))
+returns c = sym (obey-by (c .before .before .args .self) Drain (ap (λ t. t && true) (denied (c .before .in-range .ensures) (c .if1 .taken))))
 
 returns-2 : tie.Need-returns-2
-returns-2 c = simp (granted (c .before .before .before .in-range .ensures) (c .before .before .if1 .left), eq-eqb _ _ (c .if2 .taken))
+returns-2 c = sym (obeyed (c .before .before) ∙ by-test _ _ (ap not (eq-eqb _ _ (c .if2 .taken))))
 
 slots-after-requires : tie.Need-slots-after-requires
 slots-after-requires c κs =
     let start = c .before .before .before .before .before .before .before .before in
-    let ready = granted (c .before .before .before .before .before .before .before .in-range .ensures) (c .before .before .before .before .before .before .if1 .left) in
+    let ready = ready (c .before .before .before .before .before .before) in
     let sizes = bounds (start .args .self) ready .sizes in
     (simp (c .before .before .oldest .ensures) (oldest-in-range (start .args .self) ready (omega (arith, c .before .before .before .before .if2 .left))), sizes .slots-some, sizes .slots-most)
 
 drop-oldest-requires : tie.Need-drop-oldest-requires
 drop-oldest-requires c κs =
-    let bound = bounds (c .before .before .before .before .before .before .before .before .before .before .args .self) (granted (c .before .before .before .before .before .before .before .before .before .in-range .ensures) (c .before .before .before .before .before .before .before .before .if1 .left)) in
+    let bound = bounds (c .before .before .before .before .before .before .before .before .before .before .args .self) (ready (c .before .before .before .before .before .before .before .before)) in
     let most = bound .sizes .buffer-most in
     let fits = bound .count in
     (omega arith, omega arith)
 
 returns-3 : tie.Need-returns-3
 returns-3 c =
-    simp (
-      granted (c .before .before .before .before .before .before .before .before .before .before .in-range .ensures) (c .before .before .before .before .before .before .before .before .before .if1 .left),
-      ne-eqb _ _ (c .before .before .before .before .before .before .before .if2 .left),
-      c .drop-oldest .ensures,
-      c .before .tail-after .ensures,
-      c .before .before .slots-after .ensures,
-      c .before .before .before .before .before .oldest .ensures,
-    )
+    (simp (c .drop-oldest .ensures, c .before .tail-after .ensures, c .before .before .slots-after .ensures, c .before .before .before .before .before .oldest .ensures))
+    ∙ sym (obeyed (c .before .before .before .before .before .before .before .before .before) ∙ by-test _ _ (ap not (ne-eqb _ _ (c .before .before .before .before .before .before .before .if2 .left))))
 
 pub drain-spec : {M : Type 1} → statement M
 drain-spec = tie.close (tie.spec (λ c κs. search needs) returns returns-2 (λ c κs. search needs) slots-after-requires (λ c κs. search needs) drop-oldest-requires returns-3)
