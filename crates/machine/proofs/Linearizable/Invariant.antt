@@ -1,8 +1,8 @@
 -- The invariant: what is true after every entry of a run, of the machine, of the plain queue beside it, and of the calls in progress.
 --
--- Indices are natural numbers, one above (`Laws.Index`). Two of them are not in the machine. The queue's tail is one past the newest task that
--- stands: the worker's tail, or one more while a take has lowered it for nothing yet. And lo is the index that a thief has
--- stolen and not yet loaded, else that of the oldest task: no slot from lo on may be written over.
+-- Indices are natural numbers, one above (`Laws.Index`). Two of them are not in the machine. The queue's tail is one past the newest task
+-- that stands: the worker's tail, or one more from a take's step 1 to its effect, and after an EMPTY one until the tail is put back. And lo is
+-- the index that a thief has stolen and not yet loaded, else that of the oldest task: no slot from lo on may be written over.
 --
 -- `Sound` holds whichever margin is set; `Agrees` needs one that is enough.
 use mathlib.Core.Path.{_≡_}
@@ -28,7 +28,7 @@ use Rattle.machine.proofs.Laws.Chain.{Chain, SlotsWithin}
 
 -- ── The worker's call ───────────────────────────────────────────────────────────────────────────────────────────────────────
 
--- 1 while a take has lowered the tail and the task above it still stands, or was never there
+-- 1 while the worker's tail is below the queue's: a take has lowered it and taken nothing
 abbrev pub lowered : WorkerCall → ℕ
 lowered WorkerCall.Idle = 0
 lowered (PutLoadHead x) = 0
@@ -232,27 +232,37 @@ holds (TheThief j) i = eqb i j
 
 -- The pending stores, from memory's tail to the worker's.
 pub record Pending (z : Sizes) (tail : Index) (b : StoreBuffer) : Type 0 where
-  -- memory's tail, and the tail as the worker loads it
+  -- memory's tail
   pub landed : ℕ
+  -- the tail as the worker loads it
   pub seen : ℕ
-  -- the chain's counts
+  -- the stores that are due before the first pending take store
   pub due : ℕ
+  -- the pending take stores
   pub dips : ℕ
+  -- the stores that are due behind the last before another take store
   pub owed : ℕ
+  -- an index above that of every pending slot store
   pub bound : ℕ
   pub tail-is : tail ≡ idx landed
+  -- from memory's tail the pending stores lead to the worker's, and their take stores are spaced
   pub chain : Chain (z .spacing) bound landed due (pending b) dips owed seen
   pub few : due ≤ z .spacing
+  -- no more are pending than the buffer holds, and they lie within its array
   pub fits : b .count ≤ z .buffer
   pub cells : length (b .stores) ≡ 64
+  -- each is in range, and so is memory's tail
   pub ranged : all (λ a. storeInRange (a .kind)) (pending b) ≡ true
   pub tail-ranged : indexInRange tail ≡ true
 
 -- Head, by what the thief inside has done to it.
 pub record Heading (start : ℕ) (head : Index) (p : ThiefCall) : Type 0 where
+  -- the index that a thief has stolen and not loaded, else that of the oldest task
   pub lo : ℕ
+  -- head is lo, or one above while the thief has raised it
   pub head-is : head ≡ idx (lo + (raised p + stolen p))
   pub holds-head : HoldsHead p lo
+  -- no task lies below start, and none is stolen from past the tail's greatest value
   pub floor : start + 1 ≤ lo
   pub top : lo + stolen p ≤ 2147483648
 
@@ -263,6 +273,7 @@ head-at {p = p} v = v .lo + (raised p + stolen p)
 -- The queue's tail, by what the worker has done to it.
 pub record Tailing (start seen : ℕ) (c : WorkerCall) : Type 0 where
   pub holds-tail : HoldsTail c seen
+  -- the queue's tail is never below start, nor above its greatest value, also after a put that has passed its test
   pub floor : start + 1 ≤ seen + lowered c
   pub top : seen + lowered c + filling c ≤ 2147483648
 
@@ -272,13 +283,20 @@ asked taken spacing since = cond taken (spacing - since) 0
 
 -- A machine after n entries, whichever margin is set, with the worker's call c, and p the call of the thief inside.
 pub record Sound (n : ℕ) (m : Machine) (c : WorkerCall) (p : ThiefCall) : Type 0 where
+  -- the sizes are in range, and memory is as long as it was made
   pub sizes : SizeBounds (m .sizes)
   pub memory : length (m .slots) ≡ 256
+  -- the pending stores lead from memory's tail to the worker's
   pub buffer : Pending (m .sizes) (m .tail) (m .buffer)
+  -- head is where the thief inside has left it
   pub head : Heading (m .sizes .start) (m .head) p
+  -- the queue's tail is where the worker's call has left it
   pub tail : Tailing (m .sizes .start) (buffer .seen) c
+  -- the next take store is as far off as the spacing rule keeps it
   pub spaced : Spaced c (buffer .owed) (asked (m .taken) (m .sizes .spacing) (m .since)) (m .sizes .spacing)
+  -- the spacing count counts entries
   pub counted : m .since ≤ n
+  -- worker and thief are not inside at once
   pub lock : Exclusive (m .lock .holder) (locked c) p
 
 -- ── Machine and plain queue ─────────────────────────────────────────────────────────────────────────────────────────────────
@@ -287,17 +305,26 @@ pub record Sound (n : ℕ) (m : Machine) (c : WorkerCall) (p : ThiefCall) : Type
 abbrev pub taskAt : List StoredTask → ℕ → StoredTask
 taskAt l k = getD l k (record { put = 0; number = 0 })
 
+-- from index lo on, the loads are the tasks' numbers
+abbrev pub Shows : (ℕ → ℕ) → ℕ → List StoredTask → Type 0
+Shows load lo l = (k : ℕ) → k < length l → taskAt l k .number ≡ load (lo + k)
+
 -- The plain queue's tasks stand in the slots as the worker loads them, `load`, of n slots, with b pending.
 pub record Agrees (n : ℕ) (load : ℕ → ℕ) (b : List Store) (c : WorkerCall) (p : ThiefCall) (seen lo bound : ℕ) (q : PlainQueue) : Type 0 where
-  -- from the oldest task to the queue's tail
+  -- the tasks reach from the oldest, past one that is stolen and not loaded, to the queue's tail
   pub count : lo + stolen p + length (q .tasks) ≡ seen + lowered c
+  -- the sum is the queue's tail
   pub sum : q .sum + 1 ≡ seen + lowered c
-  -- all of it, and what a put is about to add, within a window of the slots
+  -- from lo on they lie in slots of their own, with the one that a put is about to fill ..
   pub room : seen + lowered c + filling c ≤ lo + n
+  -- .. and so do all pending slot stores
   pub below : bound ≤ lo + n
-  pub shows : (k : ℕ) → k < length (q .tasks) → taskAt (q .tasks) k .number ≡ load (lo + stolen p + k)
+  -- the worker would load the tasks' numbers, in their order
+  pub shows : Shows load (lo + stolen p) (q .tasks)
+  -- what a thief is about to load is not written over
   pub unwritten : Unwritten p lo bound b
 
+-- .. for a sound machine
 abbrev pub AgreesOn : {n : ℕ} {m : Machine} {c : WorkerCall} {p : ThiefCall} → Sound n m c p → PlainQueue → Type 0
 AgreesOn {m = m} {c = c} {p = p} v q =
     Agrees (m .sizes .slots) (λ k. workerLoad m (idx k)) (pending (m .buffer)) c p (v .buffer .seen) (v .head .lo) (v .buffer .bound) q
@@ -309,14 +336,22 @@ pub record Follows (call : PartyCall) (b : Begun) (owed : List Outcome) : Type 0
   pub begun : call .begun ≡ b
   pub answers : answersTo call ≡ owed
 
+-- A run of sizes s, after n entries.
 pub record Invariant (s : Sizes) (n : ℕ) (w : Watch) : Type 0 where
   -- the call of the thief inside the lock
   pub inside : ThiefCall
+  -- the sizes never change
   pub sizes-are : w .machine .sizes ≡ s
   pub long : length (w .machine .thieves) ≡ 8
   pub sound : Sound n (w .machine) (w .machine .worker .call) inside
+  -- the thief that holds the lock is inside, and every other is outside
   pub thieves : (i : ℕ) → InPlace (holds (w .machine .lock .holder) i) (w .machine .sizes .thieves) i inside (thiefCall (w .machine) i)
+  -- with enough margin, the tasks are in the slots ..
   pub agrees : enoughMargin s ≡ true → AgreesOn sound (w .queue)
-  -- what each party's call owes is what the plain queue has answered to it
-  pub worker-call : enoughMargin s ≡ true → Follows (w .calls worker) (workerBegun (w .machine) (w .machine .worker .call)) (workerOwes (w .machine) (w .machine .worker .call))
-  pub thief-call : enoughMargin s ≡ true → (i : ℕ) → Follows (w .calls (thief i)) (thiefBegun (thiefCall (w .machine) i)) (thiefOwes (w .machine) (thiefCall (w .machine) i))
+  -- .. and what each party's call owes is what the plain queue has answered to it
+  pub worker-call :
+      enoughMargin s ≡ true
+      → Follows (w .calls worker) (workerBegun (w .machine) (w .machine .worker .call)) (workerOwes (w .machine) (w .machine .worker .call))
+  pub thief-call :
+      enoughMargin s ≡ true → (i : ℕ)
+      → Follows (w .calls (thief i)) (thiefBegun (thiefCall (w .machine) i)) (thiefOwes (w .machine) (thiefCall (w .machine) i))

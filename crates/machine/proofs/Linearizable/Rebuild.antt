@@ -21,8 +21,8 @@ use Rattle.machine.proofs.Laws.Index.{idx}
 use Rattle.machine.proofs.Laws.StoreBuffer.{push-pending}
 use Rattle.machine.proofs.Laws.Chain.{Chain, SlotsWithin, chain-push, chain-raise, chain-tail, slots-append}
 use Rattle.machine.proofs.Laws.Loads.{pushed-workerLoad}
-use Rattle.machine.proofs.Linearizable.Invariant.{Agrees, AgreesOn, Exclusive, Pending, Sound, Spaced, Tailing, Unwritten, asked, filling, holds, locked, lowered, stolen, workerBegun}
-use Rattle.machine.proofs.Linearizable.Tasks.{Shows, shows-load}
+use Rattle.machine.proofs.Linearizable.Invariant.{Agrees, AgreesOn, Exclusive, Pending, Shows, Sound, Spaced, Tailing, Unwritten, asked, filling, holds, locked, lowered, stolen, workerBegun}
+use Rattle.machine.proofs.Linearizable.Tasks.{shows-load}
 use Rattle.machine.proofs.Linearizable.Turn.{Turn, WorkerTurn, stands, toldIn, worked}
 
 -- ── The pending stores ──────────────────────────────────────────────────────────────────────────────────────────────────────

@@ -11,7 +11,7 @@ use borrow.Author.Tests.{eq-eqb, ltb-false, ltb-true, ne-eqb}
 use Rattle.machine.specs.Types.{Task, Empty, Abort, Full, End}
 use Rattle.machine.specs.Lists.{upFrom, upTo}
 use Rattle.machine.specs.PlainQueue.{toldPut, toldTake, toldSteal, PlainQueue, Reply, StoredTask, joined, leaves, newest, respond, unchanged, withoutNewest}
-use Rattle.machine.proofs.Linearizable.Invariant.{taskAt}
+use Rattle.machine.proofs.Linearizable.Invariant.{Shows, taskAt}
 
 -- ── Replies ─────────────────────────────────────────────────────────────────────────────────────────────────────────────────
 
@@ -60,10 +60,6 @@ module _ (q : PlainQueue) where
 
 -- ── Tasks in the slots ──────────────────────────────────────────────────────────────────────────────────────────────────────
 
--- from index lo on, the loads are the tasks' numbers
-abbrev pub Shows : (ℕ → ℕ) → ℕ → List StoredTask → Type 0
-Shows load lo l = (k : ℕ) → k < length l → taskAt l k .number ≡ load (lo + k)
-
 module _ (load : ℕ → ℕ) (lo : ℕ) (l : List StoredTask) (shows : Shows load lo l) where
   pub shows-as : (from : ℕ) → lo ≡ from → Shows load from l
   shows-as from same = subst (λ j. Shows load j l) same shows
@@ -97,7 +93,7 @@ module _ (load : ℕ → ℕ) (lo : ℕ) (l : List StoredTask) (shows : Shows lo
       ap (λ a. a .number) (getD-drop 1 l k (record { put = 0; number = 0 })) ∙ shows (1 + k) within ∙ ap load (omega arith)
 
 -- .. as a list
-shows-from : (load : ℕ → ℕ) (j : ℕ) (l : List StoredTask) → ((k : ℕ) → k < length l → taskAt l k .number ≡ load (j + k)) → map (λ t. t .number) l ≡ map load (upFrom j (length l))
+shows-from : (load : ℕ → ℕ) (j : ℕ) (l : List StoredTask) → Shows load j l → map (λ t. t .number) l ≡ map load (upFrom j (length l))
 shows-from load j [] shows = refl
 shows-from load j (t ∷ l) shows =
     let first : j + 0 ≡ j = omega arith in
