@@ -1,8 +1,8 @@
 -- The invariant: what is true after every entry of a run, of the machine, of the plain queue beside it, and of the calls in progress.
 --
 -- Indices are natural numbers, one above (`Laws.Index`). Two of them are not in the machine. The queue's tail is one past the newest task
--- that stands: the worker's tail, or one more from a take's step 1 to its effect, and after an EMPTY one until the tail is put back. And lo is
--- the index that a thief has stolen and not yet loaded, else that of the oldest task: no slot from lo on may be written over.
+-- that stands: the worker's tail, or one more while a take has lowered the worker's tail and taken nothing. And lo is where the slots begin
+-- that may not be written over: at a stolen task that its thief has yet to load, or else at the oldest task.
 --
 -- `Sound` holds whichever margin is set; `Agrees` needs one that is enough.
 use mathlib.Core.Path.{_≡_}
@@ -127,7 +127,7 @@ workerBegun m (TakeLoadLastSlot t) = aTake
 
 -- ── The call of the thief inside the lock ───────────────────────────────────────────────────────────────────────────────────
 
--- 1 while head is above the oldest task, since the thief has raised it and has not stolen
+-- 1 while head is above the oldest task: raised, and nothing stolen
 abbrev pub raised : ThiefCall → ℕ
 raised ThiefCall.Idle = 0
 raised StealLock = 0
@@ -257,7 +257,7 @@ pub record Pending (z : Sizes) (tail : Index) (b : StoreBuffer) : Type 0 where
 
 -- Head, by what the thief inside has done to it.
 pub record Heading (start : ℕ) (head : Index) (p : ThiefCall) : Type 0 where
-  -- the index that a thief has stolen and not loaded, else that of the oldest task
+  -- where a stolen task lies that is still to be loaded, or else the oldest task
   pub lo : ℕ
   -- head is lo, or one above while the thief has raised it
   pub head-is : head ≡ idx (lo + (raised p + stolen p))

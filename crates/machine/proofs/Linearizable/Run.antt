@@ -35,7 +35,7 @@ use Rattle.machine.proofs.Linearizable.Rebuild.{seen-tail}
 abbrev pub withReplies : PartyCall → List Reply → PartyCall
 withReplies call replies = record { begun = call .begun; replies = call .replies ++ replies }
 
--- What a turn makes of the party's call, with what the plain queue is told by the call itself.
+-- What a turn makes of the party's call, where the call itself says what was told.
 pub record Turned (n : ℕ) (call : PartyCall) (q : PlainQueue) (told : List Told) (o : Outcome) (e : Entry) (b : Begun) (owed : List Outcome) (A : PlainQueue → Type 0) : Type 0 where
   pub follows : Follows (callAfter (withReplies call (map (respond q) told)) o e) b owed
   pub limits : all (withinLimits n q) told ≡ true
