@@ -15,7 +15,7 @@ use Rattle.machine.specs.StoreBuffer.{push, slotStore, tailStore}
 use Rattle.machine.specs.InRange.{storeInRange}
 use Rattle.machine.specs.Machine.{done, hasRoom, workerLoad, workerTail}
 use Rattle.machine.specs.Update.{pushed}
-use Rattle.machine.specs.PlainQueue.{toldPut, PlainQueue, joined, unchanged}
+use Rattle.machine.specs.PlainQueue.{toldPut, PlainQueue}
 use Rattle.machine.specs.Worker.{atEnd, isFull, putLoadHead, putStoreSlot, putStoreTail, workerAnswers, workerGoesOn}
 use Rattle.machine.specs.Effect.{aPut}
 use Rattle.machine.proofs.Laws.Tests.{decide, known}
@@ -24,7 +24,7 @@ use Rattle.machine.proofs.Laws.Chain.{between, no-store, none, past-tai
 use Rattle.machine.proofs.Laws.Loads.{pushed-workerLoad, pushed-workerTail, slotAfter-apart}
 use Rattle.machine.proofs.Linearizable.Invariant.{AgreesOn, Sound, head-at, raised-stolen, stolen}
 use Rattle.machine.proofs.Linearizable.Tasks.{replies-end, replies-full, replies-stored, shows-joined}
-use Rattle.machine.proofs.Linearizable.Turn.{StepTurn, moves, worked}
+use Rattle.machine.proofs.Linearizable.Turn.{StepTurn, answers-at-once, moves, worked}
 use Rattle.machine.proofs.Linearizable.Rebuild.{agrees-call, inside-cells, pushed-shows, pushed-unwritten, pushes, pushing, rebuilt, recalled, recalls, refused, seen-tail}
 
 module _ {n : ℕ} {m : Machine} {p : ThiefCall} (q : PlainQueue) where
@@ -50,15 +50,8 @@ module _ {n : ℕ} {m : Machine} {p : ThiefCall} (q : PlainQueue) where
         let last = eqb-true (v .buffer .seen) 2147483648 (known atEnd-is at-end) in
         recalls v End (toldPut x false ∷ []) (m .lock) WorkerCall.Idle refl (λ i. refl) idle
         (λ a.
-        record {
-          replies = unchanged q End ∷ [];
-          are = ap (λ r. r ∷ []) (replies-end q x false (omega (arith, a .sum)));
-          limits = rw (eq-eqb (q .sum) 2147483647 (omega (arith, a .sum)));
-          answers = λ e. refl;
-          begun = refl;
-          owes = refl;
-          agrees = agrees-call refl (a .room) a;
-        })
+        answers-at-once (replies-end q x false (omega (arith, a .sum))) (rw (eq-eqb (q .sum) 2147483647 (omega (arith, a .sum)))) refl refl
+        (agrees-call refl (a .room) a))
 
     -- all slots but one are filled, for head is no lower than the oldest task
     full : atEnd m ≡ false → isFull m ≡ true → StepTurn v q (workerAnswers Full m)
@@ -67,15 +60,8 @@ module _ {n : ℕ} {m : Machine} {p : ThiefCall} (q : PlainQueue) where
         let close = leb-true (m .sizes .slots + head-at (v .head)) (v .buffer .seen + 1) (known isFull-is no-room) in
         recalls v Full (toldPut x true ∷ []) (m .lock) WorkerCall.Idle refl (λ i. refl) idle
         (λ a.
-        record {
-          replies = unchanged q Full ∷ [];
-          are = ap (λ r. r ∷ []) (replies-full q x (λ e. not-last (omega (arith, a .sum))));
-          limits = rw (le-leb (m .sizes .slots - 1) (length (q .tasks)) (omega (arith, a .count)));
-          answers = λ e. refl;
-          begun = refl;
-          owes = refl;
-          agrees = agrees-call refl (a .room) a;
-        })
+        answers-at-once (replies-full q x (λ e. not-last (omega (arith, a .sum)))) (le-leb (m .sizes .slots - 1) (length (q .tasks)) (omega (arith, a .count))) refl refl
+        (agrees-call refl (a .room) a))
 
     -- the slot of the tail is free, for head is at most one above lo
     passed : atEnd m ≡ false → isFull m ≡ false → StepTurn v q (workerGoesOn (PutStoreSlot x) m)
@@ -173,28 +159,20 @@ module _ {n : ℕ} {m : Machine} {p : ThiefCall} (q : PlainQueue) where
         (λ g.
         let below-end : q .sum ≡ 2147483647 → ⊥ = λ e. omega (arith, g .sum) in
         let end : seen ≡ lo + stolen p + length (q .tasks) = omega (arith, g .count) in
-        record {
-          replies = joined x q ∷ [];
-          are = ap (λ r. r ∷ []) (replies-stored q x below-end);
-          limits =
-              rw (ne-eqb (q .sum) 2147483647 below-end, lt-ltb (length (q .tasks)) (m .sizes .slots) (omega (arith, g .count, g .room)));
-          answers = λ e. refl;
-          begun = refl;
-          owes = refl;
-          agrees =
-              record {
-                count = simp length-append (omega (arith, g .count));
-                sum = omega (arith, g .sum);
-                room = omega (arith, g .room);
-                below = g .below;
-                shows =
-                    shows-joined (λ k. workerLoad (pushed a m) (idx k)) (lo + stolen p) (q .tasks)
-                    (pushed-shows v room a (q .tasks) (lo + stolen p) (λ k h. refl) (g .shows))
-                    (record { put = q .stored; number = x })
-                    (ap (workerLoad m) (seen-tail (v .buffer) ∙ ap idx end) ∙ sym (pushed-workerLoad a m (idx (lo + stolen p + length (q .tasks))) cells));
-                unwritten = pushed-unwritten v room a (v .buffer .bound) (omega arith) (λ has. past-tail no-store) (g .unwritten);
-              };
-        })
+        answers-at-once (replies-stored q x below-end)
+        (rw (ne-eqb (q .sum) 2147483647 below-end) (lt-ltb (length (q .tasks)) (m .sizes .slots) (omega (arith, g .count, g .room)))) refl refl
+        (record {
+          count = simp length-append (omega (arith, g .count));
+          sum = omega (arith, g .sum);
+          room = omega (arith, g .room);
+          below = g .below;
+          shows =
+              shows-joined (λ k. workerLoad (pushed a m) (idx k)) (lo + stolen p) (q .tasks)
+              (pushed-shows v room a (q .tasks) (lo + stolen p) (λ k h. refl) (g .shows))
+              (record { put = q .stored; number = x })
+              (ap (workerLoad m) (seen-tail (v .buffer) ∙ ap idx end) ∙ sym (pushed-workerLoad a m (idx (lo + stolen p + length (q .tasks))) cells));
+          unwritten = pushed-unwritten v room a (v .buffer .bound) (omega arith) (λ has. past-tail no-store) (g .unwritten);
+        }))
 
     pub put-store-tail : StepTurn v q (putStoreTail m)
     put-store-tail = decide (StepTurn v q) (hasRoom m) stores-tail (λ e. refused v Wait at refl refl)

@@ -1,6 +1,6 @@
 -- Each step of a take keeps the invariant, and is answered as the plain queue answers.
 use mathlib.Core.Path.{_≡_, refl, ap, sym, _∙_, subst}
-use mathlib.Core.Bool.{true, false, _&&_, false≢true}
+use mathlib.Core.Bool.{true, false, _&&_}
 use mathlib.Core.List.{List, [], _∷_}
 use Prim.Native.Nat.{ℕ, suc, _+_, _-_, _≤_, _<_}
 use native.Mathlib.Nat.{le-refl}
@@ -16,7 +16,7 @@ use Rattle.machine.specs.StoreBuffer.{push, tailStore}
 use Rattle.machine.specs.InRange.{storeInRange}
 use Rattle.machine.specs.Machine.{done, hasRoom, lockIsFree, nothingPending, workerLoad, workerTail}
 use Rattle.machine.specs.Update.{pushed, withLock}
-use Rattle.machine.specs.PlainQueue.{toldTake, PlainQueue, unchanged}
+use Rattle.machine.specs.PlainQueue.{toldTake, PlainQueue}
 use Rattle.machine.specs.Worker.{atOrAboveHead, headIsPast, takeLoadHead, takeLoadSlot, takeLock, takeReloadHead, takeRestoreTail, takeStoreTail, takeUnlockEmpty, takeUnlockTask, workerGoesOn}
 use Rattle.machine.specs.Effect.{aTake, onlyWhere, toldOf, workerEffect}
 use Rattle.machine.specs.Linearizable.{workerOwes}
@@ -24,8 +24,8 @@ use Rattle.machine.proofs.Laws.Tests.{both-left, decide, known}
 use Rattle.machine.proofs.Laws.Index.{idx, idx-in-range, idx-le, idx-next, idx-previous}
 use Rattle.machine.proofs.Laws.Chain.{Chain, down, no-store, none, past-tail, up}
 use Rattle.machine.proofs.Linearizable.Invariant.{Agrees, AgreesOn, Exclusive, Sound, asked, filling, head-at, holds, lowered, raised, stolen, taskAt, workerBegun}
-use Rattle.machine.proofs.Linearizable.Tasks.{gives, replies-empty, replies-taken, shows-taken, taken}
-use Rattle.machine.proofs.Linearizable.Turn.{StepTurn, Turn, ends, moves, toldIn, worked}
+use Rattle.machine.proofs.Linearizable.Tasks.{replies-empty, replies-taken, shows-taken, taken}
+use Rattle.machine.proofs.Linearizable.Turn.{StepTurn, Turn, ends, moves, takes-effect, toldIn, worked}
 use Rattle.machine.proofs.Linearizable.Exclusion.{free-holds, free-quiet, working-holds, working-quiet}
 use Rattle.machine.proofs.Linearizable.Rebuild.{agrees-call, pushed-shows, pushed-unwritten, pushes, pushing, rebuilt, recalled, recalls, refused, seen-tail}
 
@@ -43,23 +43,15 @@ takes-newest {load = load} {p = p} {seen = seen} {lo = lo} {q = q} x low level s
     let number : taskAt (q .tasks) (length (q .tasks) - 1) .number ≡ x =
     g .shows (length (q .tasks) - 1) (omega arith) ∙ ap load last ∙ sym here
     in
-    record {
-      replies = gives q (taskAt (q .tasks) (length (q .tasks) - 1)) (taken q) ∷ [];
-      are = ap (λ r. r ∷ []) (replies-taken q some);
-      limits = refl;
-      answers = λ e. absurd (false≢true e);
-      begun = refl;
-      owes = ap (λ x. Task x ∷ []) (sym number);
-      agrees =
-          record {
-            count = simp length-take (omega (arith, g .count));
-            sum = omega (arith, g .sum, g .count);
-            room = omega (arith, g .room);
-            below = g .below;
-            shows = shows-taken load (lo + stolen p) (q .tasks) (g .shows);
-            unwritten = g .unwritten;
-          };
-    }
+    takes-effect (replies-taken q some) refl refl (ap (λ x. Task x ∷ []) (sym number))
+    (record {
+      count = simp length-take (omega (arith, g .count));
+      sum = omega (arith, g .sum, g .count);
+      room = omega (arith, g .room);
+      below = g .below;
+      shows = shows-taken load (lo + stolen p) (q .tasks) (g .shows);
+      unwritten = g .unwritten;
+    })
 
 module _ {n : ℕ} {m : Machine} {c : WorkerCall} {p : ThiefCall} (v : Sound n m c p) where
   -- a take past its effect ends with the answer that it owes
@@ -199,15 +191,7 @@ module _ {n : ℕ} {m : Machine} {p : ThiefCall} (q : PlainQueue) where
         recalls v Moved (toldTake ∷ []) (m .lock) (TakeRestoreTail t) refl (λ i. refl)
         (recalled v (m .lock) (TakeRestoreTail t) (record { holds-tail = v .tail .holds-tail; floor = v .tail .floor; top = v .tail .top }) (v .spaced) (v .lock))
         (λ g.
-        record {
-          replies = unchanged q Empty ∷ [];
-          are = ap (λ r. r ∷ []) (replies-empty q (omega (arith, g .count, ap raised alone, ap stolen alone)));
-          limits = refl;
-          answers = λ e. absurd (false≢true e);
-          begun = refl;
-          owes = refl;
-          agrees = agrees-call refl (g .room) g;
-        })
+        takes-effect (replies-empty q (omega (arith, g .count, ap raised alone, ap stolen alone))) refl refl refl (agrees-call refl (g .room) g))
 
     takes-last : headIsPast t m ≡ false → StepTurn v q (workerGoesOn (TakeUnlockTask t) m)
     takes-last not-past =

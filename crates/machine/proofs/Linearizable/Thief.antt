@@ -1,7 +1,7 @@
 -- Each entry of a thief's keeps the invariant, and is answered as the plain queue answers. The steps inside the lock are shown for the one
 -- thief that holds it; that every other is outside is a matter of `Exclusion`.
 use mathlib.Core.Path.{_≡_, refl, ap, sym, _∙_, subst}
-use mathlib.Core.Bool.{true, false, cond, not, false≢true}
+use mathlib.Core.Bool.{true, false, cond, not}
 use mathlib.Core.List.{List, [], _∷_}
 use Prim.Native.Nat.{ℕ, _+_, _≤_, _<_}
 use native.Mathlib.Omega.{arith}
@@ -28,8 +28,8 @@ use Rattle.machine.proofs.Laws.Index.{idx, idx-as, idx-in-range, idx-ma
 use Rattle.machine.proofs.Laws.Chain.{chain-safe}
 use Rattle.machine.proofs.Laws.Loads.{slots-leave}
 use Rattle.machine.proofs.Linearizable.Invariant.{Agrees, AgreesOn, Exclusive, Heading, InPlace, Sound, Unwritten, head-at, holds, locked, outside, raised, stolen, taskAt, thiefBegun}
-use Rattle.machine.proofs.Linearizable.Tasks.{gives, replies-robbed, robbed, shows-as, shows-robbed}
-use Rattle.machine.proofs.Linearizable.Turn.{StealTurn, ThiefTurn, Turn, ends, moves, raided, stands, toldIn}
+use Rattle.machine.proofs.Linearizable.Tasks.{replies-robbed, robbed, shows-as, shows-robbed}
+use Rattle.machine.proofs.Linearizable.Turn.{StealTurn, ThiefTurn, Turn, ends, moves, raided, stands, takes-effect, toldIn}
 use Rattle.machine.proofs.Linearizable.Exclusion.{free-outside, free-quiet, held-outside, holder-stays, inside-holds, others-stay, outside-stays}
 
 -- ── The invariant, rebuilt ──────────────────────────────────────────────────────────────────────────────────────────────────
@@ -191,42 +191,25 @@ module _ {n : ℕ} {m : Machine} {c : WorkerCall} (q : PlainQueue) (i : ℕ) (he
         ∙ slots-leave (pending (m .buffer)) (m .sizes .slots) lo (memoryLoad m (idx lo)) (omega (arith, v .head .floor)) (a .below) (safe .1)
         ∙ ap (memoryLoad m) (sym (v .head .holds-head))
         in
-        record {
-          replies = gives q (taskAt (q .tasks) 0) (robbed q) ∷ [];
-          are = ap (λ r. r ∷ []) (replies-robbed q standing);
-          limits = rw (lt-ltb 0 (length (q .tasks)) standing);
-          answers = λ e. absurd (false≢true e);
-          begun = refl;
-          owes = ap (λ x. Task x ∷ []) (sym oldest);
-          agrees =
-              record {
-                count = simp length-drop (omega (arith, a .count));
-                sum = a .sum;
-                room = a .room;
-                below = a .below;
-                shows =
-                    shows-as (λ k. workerLoad m (idx k)) (lo + 0 + 1) (robbed q .tasks)
-                    (shows-robbed (λ k. workerLoad m (idx k)) (lo + 0) (q .tasks) (a .shows))
-                    (lo + 1) (omega arith);
-                unwritten = safe .1;
-              };
-        })
+        takes-effect (replies-robbed q standing) (lt-ltb 0 (length (q .tasks)) standing) refl (ap (λ x. Task x ∷ []) (sym oldest))
+        (record {
+          count = simp length-drop (omega (arith, a .count));
+          sum = a .sum;
+          room = a .room;
+          below = a .below;
+          shows =
+              shows-as (λ k. workerLoad m (idx k)) (lo + 0 + 1) (robbed q .tasks)
+              (shows-robbed (λ k. workerLoad m (idx k)) (lo + 0) (q .tasks) (a .shows))
+              (lo + 1) (omega arith);
+          unwritten = safe .1;
+        }))
 
     aborts : marginKept h m ≡ false → StealTurn v q i (StealLoadTail h) (thiefGoesOn i (StealRestoreHead h) m)
     aborts not-kept =
         stays v (toldSteal true ∷ []) (m .head) (StealRestoreHead h) refl
         (record { lo = v .head .lo; head-is = v .head .head-is; holds-head = v .head .holds-head; floor = v .head .floor; top = v .head .top })
         (ap (λ b. toldSteal (not b) ∷ []) (sym not-kept))
-        (λ enough a.
-        record {
-          replies = unchanged q Abort ∷ [];
-          are = refl;
-          limits = refl;
-          answers = λ e. absurd (false≢true e);
-          begun = refl;
-          owes = refl;
-          agrees = agrees-inside refl tt a;
-        })
+        (λ enough a. takes-effect {r = unchanged q Abort} refl refl refl refl (agrees-inside refl tt a))
 
     steal-load-tail : StealTurn v q i (StealLoadTail h) (stealLoadTail i h m)
     steal-load-tail = decide (StealTurn v q i (StealLoadTail h)) (marginKept h m) steals aborts

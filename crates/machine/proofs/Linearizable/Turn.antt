@@ -1,5 +1,5 @@
 -- What an entry has to show, of the machine and of the plain queue beside it.
-use mathlib.Core.Path.{_≡_, refl, sym, _∙_}
+use mathlib.Core.Path.{_≡_, refl, ap, sym, _∙_}
 use mathlib.Core.Bool.{Bool, true, false, cond, false≢true}
 use mathlib.Core.List.{List, [], _∷_, _++_, append-nil, map}
 use Prim.Native.Nat.{ℕ, _+_}
@@ -89,6 +89,35 @@ ends {owed = owed} answer owes agrees =
       owes = rw answer;
       agrees = agrees;
     }
+
+-- ── Turns of which the plain queue hears: a call that owes nothing takes effect, and the reply is known ─────────────────────
+
+module _ {n : ℕ} {b : Begun} {q : PlainQueue} {t : Told} {r : Reply} {e : Entry} {A : PlainQueue → Type 0} (is : r ≡ respond q t) (within : withinLimits n q t ≡ true) where
+  -- the call ends with it
+  pub answers-at-once : {o : Outcome} → isAnswer o ≡ true → r .answer ≡ o → A (r .queue) → Turn n b [] q (t ∷ []) o e nothing [] A
+  answers-at-once answer same agrees =
+      record {
+        replies = r ∷ [];
+        are = ap (λ r. r ∷ []) is;
+        limits = rw within;
+        answers = λ e. ap (λ o. o ∷ []) same;
+        begun = rw answer;
+        owes = rw answer;
+        agrees = agrees;
+      }
+
+  -- the call goes on, and owes it
+  pub takes-effect : {b′ : Begun} {owed : List Outcome} → b′ ≡ begunAfter b Moved e → owed ≡ r .answer ∷ [] → A (r .queue) → Turn n b [] q (t ∷ []) Moved e b′ owed A
+  takes-effect begun owes agrees =
+      record {
+        replies = r ∷ [];
+        are = ap (λ r. r ∷ []) is;
+        limits = rw within;
+        answers = λ e. absurd (false≢true e);
+        begun = begun;
+        owes = owes;
+        agrees = agrees;
+      }
 
 -- ── The worker's entries, apart from a drain ────────────────────────────────────────────────────────────────────────────────
 
