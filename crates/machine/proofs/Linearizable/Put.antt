@@ -19,13 +19,13 @@ use Rattle.machine.specs.PlainQueue.{toldPut, PlainQueue}
 use Rattle.machine.specs.Worker.{atEnd, isFull, putLoadHead, putStoreSlot, putStoreTail, workerAnswers, workerGoesOn}
 use Rattle.machine.specs.Effect.{aPut}
 use Rattle.machine.proofs.Laws.Tests.{decide, known}
-use Rattle.machine.proofs.Laws.Index.{idx, idx-eq, idx-full, idx-in-range, idx-next, idx-slot-in-range}
-use Rattle.machine.proofs.Laws.Chain.{between, no-store, none, past-tail, slot, up}
+use Rattle.machine.proofs.Laws.Index.{idx, idx-eq, idx-full, idx-next, idx-slot-in-range}
+use Rattle.machine.proofs.Laws.Chain.{between, no-store, none, slot}
 use Rattle.machine.proofs.Laws.Loads.{pushed-workerLoad, pushed-workerTail, slotAfter-apart}
 use Rattle.machine.proofs.Linearizable.Invariant.{AgreesOn, Sound, head-at, raised-stolen, stolen}
 use Rattle.machine.proofs.Linearizable.Tasks.{replies-end, replies-full, replies-stored, shows-joined}
 use Rattle.machine.proofs.Linearizable.Turn.{StepTurn, answers-at-once, moves, worked}
-use Rattle.machine.proofs.Linearizable.Rebuild.{agrees-call, inside-cells, pushed-shows, pushed-unwritten, pushes, pushing, rebuilt, recalled, recalls, refused, seen-tail}
+use Rattle.machine.proofs.Linearizable.Rebuild.{agrees-call, inside-cells, pushed-shows, pushed-unwritten, pushes, pushing, rebuilt, recalled, recalls, refused, seen-tail, tail-raising, tail-shows, tail-unwritten}
 
 module _ {n : ℕ} {m : Machine} {p : ThiefCall} (q : PlainQueue) where
   -- ── Step 1 ──────────────────────────────────────────────────────────────────────────────────────────────────────────────────
@@ -141,11 +141,9 @@ module _ {n : ℕ} {m : Machine} {p : ThiefCall} (q : PlainQueue) where
         let lo = v .head .lo in
         let a = tailStore (idx (seen + 1)) in
         let x = workerLoad m (workerTail m) in
-        let ranged : storeInRange (a .kind) ≡ true = rw (idx-in-range (seen + 1)) (le-leb (seen + 1) 2147483649 (omega arith)) in
         let sound =
         rebuilt v (m .lock) (push a (m .buffer)) (m .since) (m .taken) WorkerCall.Idle
-        (pushing (v .buffer) (v .sizes) room a (v .buffer .bound) 0 (v .buffer .owed) (seen + 1) (omega arith) ranged
-        (λ c few. up (seen + 1) (omega arith) (none (omega arith))))
+        (tail-raising v room (seen + 1) (omega arith) (omega arith))
         (record { holds-tail = tt; floor = omega arith; top = omega arith })
         (v .spaced)
         (omega (arith, v .counted))
@@ -168,10 +166,10 @@ module _ {n : ℕ} {m : Machine} {p : ThiefCall} (q : PlainQueue) where
           below = g .below;
           shows =
               shows-joined (λ k. workerLoad (pushed a m) (idx k)) (lo + stolen p) (q .tasks)
-              (pushed-shows v room a (q .tasks) (lo + stolen p) (λ k h. refl) (g .shows))
+              (tail-shows v room (seen + 1) q g)
               (record { put = q .stored; number = x })
               (ap (workerLoad m) (seen-tail (v .buffer) ∙ ap idx end) ∙ sym (pushed-workerLoad a m (idx (lo + stolen p + length (q .tasks))) cells));
-          unwritten = pushed-unwritten v room a (v .buffer .bound) (omega arith) (λ has. past-tail no-store) (g .unwritten);
+          unwritten = tail-unwritten v room (seen + 1) q g;
         }))
 
     pub put-store-tail : StepTurn v q (putStoreTail m)

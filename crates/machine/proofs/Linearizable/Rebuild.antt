@@ -3,12 +3,14 @@ use mathlib.Core.Path.{_≡_, refl, ap, sym, _∙_}
 use mathlib.Core.Bool.{Bool, true, false}
 use mathlib.Core.List.{List, [], _∷_, _++_}
 use Prim.Native.Nat.{ℕ, _+_, _-_, _≤_, _<_}
+use native.Mathlib.Nat.{le-refl}
 use native.Mathlib.Omega.{arith}
 use lib.ListN.{length, length-set}
+use borrow.Author.Tests.{le-leb}
 use Rattle.machine.specs.Types.{Done, Entry, Index, Lock, Machine, Outcome, Sizes, Store, StoreBuffer, ThiefCall, StealLock, StealLoadHead, StealRaiseHead, StealLoadTail, StealLoadSlot, StealUnlockTask, StealRestoreHead, StealUnlockAbort, WorkerCall}
 use Rattle.machine.specs.Outcome.{isAnswer, isRefusal}
 use Rattle.machine.specs.Index.{slotOf}
-use Rattle.machine.specs.StoreBuffer.{newestTail, pending, push, slotAfter}
+use Rattle.machine.specs.StoreBuffer.{newestTail, pending, push, slotAfter, tailStore}
 use Rattle.machine.specs.InRange.{storeInRange}
 use Rattle.machine.specs.Machine.{done, workerLoad}
 use Rattle.machine.specs.Update.{pushed}
@@ -17,9 +19,9 @@ use Rattle.machine.specs.Effect.{Effect}
 use Rattle.machine.specs.Linearizable.{workerOwes}
 use Rattle.machine.proofs.Laws.Lists.{all-snoc}
 use Rattle.machine.proofs.Laws.Sizes.{SizeBounds}
-use Rattle.machine.proofs.Laws.Index.{idx}
+use Rattle.machine.proofs.Laws.Index.{idx, idx-in-range}
 use Rattle.machine.proofs.Laws.StoreBuffer.{push-pending}
-use Rattle.machine.proofs.Laws.Chain.{Chain, SlotsWithin, chain-push, chain-raise, chain-tail, slots-append}
+use Rattle.machine.proofs.Laws.Chain.{Chain, SlotsWithin, none, no-store, past-tail, up, chain-push, chain-raise, chain-tail, slots-append}
 use Rattle.machine.proofs.Laws.Loads.{pushed-workerLoad}
 use Rattle.machine.proofs.Linearizable.Invariant.{Agrees, AgreesOn, Exclusive, Pending, Shows, Sound, Spaced, Tailing, Unwritten, asked, filling, holds, locked, lowered, stolen, workerBegun}
 use Rattle.machine.proofs.Linearizable.Tasks.{shows-load}
@@ -139,6 +141,45 @@ module _ {n : ℕ} {m : Machine} {c : WorkerCall} {p : ThiefCall} (v : Sound n m
   pushed-shows l lo leaves shows =
       shows-load (λ k. workerLoad m (idx k)) lo l shows (λ k. workerLoad (pushed a m) (idx k))
       (λ k h. pushed-workerLoad a m (idx (lo + k)) (inside-cells (v .buffer) (v .sizes) room) ∙ leaves k h)
+
+-- ── A store to the tail ─────────────────────────────────────────────────────────────────────────────────────────────────────
+
+module _ {n : ℕ} {m : Machine} {c : WorkerCall} {p : ThiefCall} (v : Sound n m c p) (room : m .buffer .count < m .sizes .buffer) (u : ℕ) where
+  -- with a link of the chain from the worker's tail to u
+  abbrev pub tail-pushing :
+      (dip owed : ℕ) → u ≤ 2147483649
+      → ((c : ℕ) → c ≤ v .buffer .owed → Chain (m .sizes .spacing) (v .buffer .bound) (v .buffer .seen) c (tailStore (idx u) ∷ []) dip owed u)
+      → Pending (m .sizes) (m .tail) (push (tailStore (idx u)) (m .buffer))
+  tail-pushing dip owed most link =
+      pushing (v .buffer) (v .sizes) room (tailStore (idx u)) (v .buffer .bound) dip owed u (le-refl (v .buffer .bound))
+      (idx-in-range u ∙ le-leb u 2147483649 most)
+      link
+
+  -- a raised tail is always a link
+  abbrev pub tail-raising : v .buffer .seen < u → u ≤ 2147483649 → Pending (m .sizes) (m .tail) (push (tailStore (idx u)) (m .buffer))
+  tail-raising higher most = tail-pushing 0 (v .buffer .owed) most (λ c few. up u higher (none (omega arith)))
+
+  -- the tasks are shown as before, and nothing is written
+  pub tail-shows : (q : PlainQueue) → AgreesOn v q → Shows (λ k. workerLoad (pushed (tailStore (idx u)) m) (idx k)) (v .head .lo + stolen p) (q .tasks)
+  tail-shows q g = pushed-shows v room (tailStore (idx u)) (q .tasks) (v .head .lo + stolen p) (λ k h. refl) (g .shows)
+
+  pub tail-unwritten : (q : PlainQueue) → AgreesOn v q → Unwritten p (v .head .lo) (v .buffer .bound) (pending (push (tailStore (idx u)) (m .buffer)))
+  tail-unwritten q g =
+      pushed-unwritten v room (tailStore (idx u)) (v .buffer .bound) (le-refl (v .buffer .bound)) (λ has. past-tail no-store) (g .unwritten)
+
+  -- so where the queue's tail stays, machine and plain queue agree as before
+  pub tail-agrees :
+      {c′ : WorkerCall} (q : PlainQueue) → u + lowered c′ ≡ v .buffer .seen + lowered c → filling c′ ≡ 0 → AgreesOn v q
+      → Agrees (m .sizes .slots) (λ k. workerLoad (pushed (tailStore (idx u)) m) (idx k)) (pending (push (tailStore (idx u)) (m .buffer))) c′ p u (v .head .lo) (v .buffer .bound) q
+  tail-agrees q same still g =
+      record {
+        count = omega (arith, g .count);
+        sum = omega (arith, g .sum);
+        room = omega (arith, g .room);
+        below = g .below;
+        shows = tail-shows q g;
+        unwritten = tail-unwritten q g;
+      }
 
 -- ── What an entry has to show ───────────────────────────────────────────────────────────────────────────────────────────────
 

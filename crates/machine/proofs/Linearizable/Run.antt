@@ -17,7 +17,7 @@ use Rattle.machine.specs.Machine.{done, idleThief, memoryLoad, nothingPe
 use Rattle.machine.specs.InRange.{inRange}
 use Rattle.machine.specs.Obey.{obey, obeyInRange, thiefIsThere}
 use Rattle.machine.specs.PlainQueue.{Told, PlainQueue, Reply, respond, withinLimits}
-use Rattle.machine.specs.Effect.{Begun, nothing, aPut, aTake, aSteal, Effect, none, Party, worker, thief, PartyCall, Watch, begunBy, callAfter, effectOf, noCall, orBegun, partyOf, queueAfter, sameParty}
+use Rattle.machine.specs.Effect.{Begun, nothing, aPut, aTake, aSteal, Effect, none, Party, worker, thief, PartyCall, Watch, begunBy, callAfter, effectOf, noCall, orBegun, partyOf, queueAfter, sameParty, workerEffect, thiefEffect}
 use Rattle.machine.specs.Linearizable.{answersTo, thiefOwes, workerOwes}
 use Rattle.machine.proofs.Laws.Tests.{both-right, decide}
 use Rattle.machine.proofs.Laws.Loads.{drained}
@@ -301,14 +301,14 @@ module _ {s : Sizes} {n : ℕ} {w : Watch} (v : Invariant s n w) where
   in-range ClientStore there = by-the-worker ClientStore (λ o. none) (λ o. refl) (client-store (w .queue) (w .machine .worker .call) (v .sound) refl)
   in-range (BeginPut x) there = by-the-worker (BeginPut x) (λ o. none) (λ o. refl) (begin-put (w .queue) x (w .machine .worker .call) (v .sound) refl)
   in-range BeginTake there = by-the-worker BeginTake (λ o. none) (λ o. refl) (begin-take (w .queue) (w .machine .worker .call) (v .sound) refl)
-  in-range WorkerStep there = by-the-worker WorkerStep _ (λ o. refl) (worker-step (w .queue) (w .machine .worker .call) (v .sound) refl)
+  in-range WorkerStep there = by-the-worker WorkerStep (λ o. workerEffect o (w .machine) (w .machine .worker .call)) (λ o. refl) (worker-step (w .queue) (w .machine .worker .call) (v .sound) refl)
   in-range (BeginSteal i) there =
       let few = ltb-true i (w .machine .sizes .thieves) there in
       by-a-thief i (BeginSteal i) none (λ o. refl) (omega (arith, v .long, v .sound .sizes .thieves-most))
       (begin-steal (w .queue) i (v .sound) few (thiefCall (w .machine) i) refl (v .thieves i))
   in-range (ThiefStep i) there =
       let few = ltb-true i (w .machine .sizes .thieves) there in
-      by-a-thief i (ThiefStep i) _ (λ o. refl) (omega (arith, v .long, v .sound .sizes .thieves-most))
+      by-a-thief i (ThiefStep i) (thiefEffect (w .machine) (thiefCall (w .machine) i)) (λ o. refl) (omega (arith, v .long, v .sound .sizes .thieves-most))
       (thief-step (w .queue) i (v .sound) few (thiefCall (w .machine) i) refl (v .thieves i))
 
   -- every entry

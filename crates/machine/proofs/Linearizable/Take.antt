@@ -8,12 +8,11 @@ use native.Mathlib.Omega.{arith}
 use lib.Dec.{leb}
 use lib.ListN.{length, length-take}
 use lib.Signed.{leZ}
-use borrow.Author.Tests.{le-leb, leb-false, leb-true, ltb-true}
+use borrow.Author.Tests.{leb-false, leb-true, ltb-true}
 use Rattle.machine.specs.Types.{WorkerStep, Nobody, TheWorker, Index, Lock, Machine, Outcome, Moved, Wait, Task, Empty, Store, ThiefCall, WorkerCall, TakeStoreTail, TakeLoadHead, TakeLoadSlot, TakeLock, TakeReloadHead, TakeRestoreTail, TakeUnlockEmpty, TakeUnlockTask, TakeLoadLastSlot}
 use Rattle.machine.specs.Outcome.{isAnswer}
 use Rattle.machine.specs.Index.{next, previous}
 use Rattle.machine.specs.StoreBuffer.{push, tailStore}
-use Rattle.machine.specs.InRange.{storeInRange}
 use Rattle.machine.specs.Machine.{done, hasRoom, lockIsFree, nothingPending, workerLoad, workerTail}
 use Rattle.machine.specs.Update.{pushed, withLock}
 use Rattle.machine.specs.PlainQueue.{toldTake, PlainQueue}
@@ -21,13 +20,13 @@ use Rattle.machine.specs.Worker.{atOrAboveHead, headIsPast, takeLoadHead
 use Rattle.machine.specs.Effect.{aTake, onlyWhere, toldOf, workerEffect}
 use Rattle.machine.specs.Linearizable.{workerOwes}
 use Rattle.machine.proofs.Laws.Tests.{both-left, decide, known}
-use Rattle.machine.proofs.Laws.Index.{idx, idx-in-range, idx-le, idx-next, idx-previous}
-use Rattle.machine.proofs.Laws.Chain.{Chain, down, no-store, none, past-tail, up}
+use Rattle.machine.proofs.Laws.Index.{idx, idx-le, idx-next, idx-previous}
+use Rattle.machine.proofs.Laws.Chain.{Chain, down, none}
 use Rattle.machine.proofs.Linearizable.Invariant.{Agrees, AgreesOn, Exclusive, Sound, asked, filling, head-at, holds, lowered, raised, stolen, taskAt, workerBegun}
 use Rattle.machine.proofs.Linearizable.Tasks.{replies-empty, replies-taken, shows-taken, taken}
 use Rattle.machine.proofs.Linearizable.Turn.{StepTurn, Turn, ends, moves, takes-effect, toldIn, worked}
 use Rattle.machine.proofs.Linearizable.Exclusion.{free-holds, free-quiet, working-holds, working-quiet}
-use Rattle.machine.proofs.Linearizable.Rebuild.{agrees-call, pushed-shows, pushed-unwritten, pushes, pushing, rebuilt, recalled, recalls, refused, seen-tail}
+use Rattle.machine.proofs.Linearizable.Rebuild.{agrees-call, pushes, rebuilt, recalled, recalls, refused, seen-tail, tail-agrees, tail-pushing, tail-raising}
 
 -- ── What several steps do ───────────────────────────────────────────────────────────────────────────────────────────────────
 
@@ -100,11 +99,10 @@ module _ {n : ℕ} {m : Machine} {p : ThiefCall} (q : PlainQueue) where
         let room = ltb-true (m .buffer .count) (m .sizes .buffer) some-room in
         let seen = v .buffer .seen in
         let a = tailStore (idx (seen - 1)) in
-        let ranged : storeInRange (a .kind) ≡ true = rw (idx-in-range (seen - 1)) (le-leb (seen - 1) 2147483649 (omega arith)) in
         let lower : idx (seen - 1) ≡ previous (workerTail m) = sym (ap previous (seen-tail (v .buffer)) ∙ idx-previous seen (omega arith)) in
         let sound =
         rebuilt v (m .lock) (push a (m .buffer)) (m .since) (m .taken) (TakeLoadHead (idx (seen - 1)))
-        (pushing (v .buffer) (v .sizes) room a (v .buffer .bound) 1 (m .sizes .spacing) (seen - 1) (omega arith) ranged link)
+        (tail-pushing v room (seen - 1) 1 (m .sizes .spacing) (omega arith) link)
         (record { holds-tail = refl; floor = omega arith; top = omega arith })
         (omega (arith, v .spaced .1))
         (omega (arith, v .counted))
@@ -114,16 +112,7 @@ module _ {n : ℕ} {m : Machine} {p : ThiefCall} (q : PlainQueue) where
         (ap (λ i. done Moved (worked m (m .lock) (push (tailStore i) (m .buffer)) (m .since) (m .taken) (TakeLoadHead i))) lower)
         refl
         sound
-        (λ g.
-        moves {A = AgreesOn sound} refl refl
-        (record {
-          count = omega (arith, g .count);
-          sum = omega (arith, g .sum);
-          room = omega (arith, g .room);
-          below = g .below;
-          shows = pushed-shows v room a (q .tasks) (v .head .lo + stolen p) (λ k h. refl) (g .shows);
-          unwritten = pushed-unwritten v room a (v .buffer .bound) (omega arith) (λ has. past-tail no-store) (g .unwritten);
-        }))
+        (λ g. moves {A = AgreesOn sound} refl refl (tail-agrees v room (seen - 1) q (omega arith) refl g))
 
     pub take-store-tail : StepTurn v q (takeStoreTail m)
     take-store-tail = decide (StepTurn v q) (hasRoom m) lowers (λ e. refused v Wait at refl refl)
@@ -211,11 +200,9 @@ module _ {n : ℕ} {m : Machine} {p : ThiefCall} (q : PlainQueue) where
         let room = ltb-true (m .buffer .count) (m .sizes .buffer) some-room in
         let seen = v .buffer .seen in
         let a = tailStore (idx (seen + 1)) in
-        let ranged : storeInRange (a .kind) ≡ true = rw (idx-in-range (seen + 1)) (le-leb (seen + 1) 2147483649 (omega arith)) in
         let sound =
         rebuilt v (m .lock) (push a (m .buffer)) (m .since) (m .taken) TakeUnlockEmpty
-        (pushing (v .buffer) (v .sizes) room a (v .buffer .bound) 0 (v .buffer .owed) (seen + 1) (omega arith) ranged
-        (λ c few. up (seen + 1) (omega arith) (none (omega arith))))
+        (tail-raising v room (seen + 1) (omega arith) (omega arith))
         (record { holds-tail = tt; floor = omega arith; top = omega arith })
         (v .spaced)
         (omega (arith, v .counted))
@@ -226,16 +213,7 @@ module _ {n : ℕ} {m : Machine} {p : ThiefCall} (q : PlainQueue) where
         (sym (ap next (v .tail .holds-tail) ∙ idx-next seen)))
         refl
         sound
-        (λ g.
-        moves {A = AgreesOn sound} refl refl
-        (record {
-          count = omega (arith, g .count);
-          sum = omega (arith, g .sum);
-          room = omega (arith, g .room);
-          below = g .below;
-          shows = pushed-shows v room a (q .tasks) (v .head .lo + stolen p) (λ k h. refl) (g .shows);
-          unwritten = pushed-unwritten v room a (v .buffer .bound) (omega arith) (λ has. past-tail no-store) (g .unwritten);
-        }))
+        (λ g. moves {A = AgreesOn sound} refl refl (tail-agrees v room (seen + 1) q (omega arith) refl g))
 
     pub take-restore-tail : StepTurn v q (takeRestoreTail t m)
     take-restore-tail = decide (StepTurn v q) (hasRoom m) restores (λ e. refused v Wait at refl refl)
