@@ -1,5 +1,6 @@
 -- Demand 3: with enough margin, for every list of entries, every answer is that of the plain queue, and no task is lost or given twice.
--- Renders the two last paragraphs of "Demand 3's plain queue". The claim is stated here; `proofs/` has what is proved of it.
+-- Renders the two last paragraphs of "Demand 3's plain queue". The claim is stated here, and proved in
+-- `proofs/Linearizable/Theorem.antt`.
 use mathlib.Core.Path.{_≡_}
 use mathlib.Core.Bool.{Bool, true, false, cond}
 use mathlib.Core.List.{List, [], _∷_, _++_, map}

@@ -24,7 +24,7 @@ use Rattle.machine.proofs.Laws.Index.{idx, idx-as, idx-in-range, idx-mi
 use Rattle.machine.proofs.Laws.Obey.{answers-at-steps}
 use Rattle.machine.proofs.Laws.Chain.{none}
 use Rattle.machine.proofs.Linearizable.Account.{account-noOther, account-once}
-use Rattle.machine.proofs.Linearizable.Invariant.{Exclusive, InPlace, Invariant, Sound, holds, lowered, outside, raised, stolen, thiefBegun, workerBegun}
+use Rattle.machine.proofs.Linearizable.Invariant.{Exclusive, InPlace, Invariant, Sound, Shows, holds, lowered, outside, raised, stolen, thiefBegun, workerBegun}
 use Rattle.machine.proofs.Linearizable.Tasks.{shows-as, shows-list}
 use Rattle.machine.proofs.Linearizable.Rebuild.{seen-tail}
 use Rattle.machine.proofs.Linearizable.Run.{entry-keeps}
@@ -183,30 +183,42 @@ module _ {s : Sizes} {n : ℕ} {w : Watch} (v : Invariant s n w) (enough : enoug
       ∙ both-right (isNothing (w .calls worker .begun)) (all (λ p. isNothing (w .calls p .begun)) (map thief (upTo (s .thieves)))) quiet)
       (subst (λ s. i < s .thieves) (v .sizes-are) there)
 
-  -- the slots from head on show the tasks that stand
-  standing : map (λ t. t .number) (w .queue .tasks) ≡ standingInSlots (w .machine)
-  standing =
-      let m = w .machine in
+  alone : v .inside ≡ ThiefCall.Idle
+  alone = nobody-inside (w .machine .lock .holder) _ (w .machine .sizes .thieves) (v .inside) (thiefCall (w .machine)) (v .sound .lock) (v .thieves) thief-idle
+
+  level : lowered (w .machine .worker .call) ≡ 0
+  level = idle-worker (w .machine) (w .machine .worker .call) worker-idle
+
+  -- so head is the oldest task's index, and the worker's tail is the queue's
+  head-lo : w .machine .head ≡ idx (v .sound .head .lo)
+  head-lo =
+      let lo = v .sound .head .lo in
+      idx-as (lo + (raised (v .inside) + stolen (v .inside))) lo (v .sound .head .head-is) (omega (arith, ap raised alone, ap stolen alone))
+
+  steps-many : stepsUp (workerTail (w .machine) .at -ℤ w .machine .head .at) ≡ length (w .queue .tasks)
+  steps-many =
       let g = v .agrees enough in
       let seen = v .sound .buffer .seen in
       let lo = v .sound .head .lo in
-      let alone = nobody-inside (m .lock .holder) _ (m .sizes .thieves) (v .inside) (thiefCall m) (v .sound .lock) (v .thieves) thief-idle in
-      let low = ap raised alone in
-      let whole = ap stolen alone in
-      let level = idle-worker m (m .worker .call) worker-idle in
-      let head : m .head ≡ idx lo = idx-as (lo + (raised (v .inside) + stolen (v .inside))) lo (v .sound .head .head-is) (omega arith) in
-      let many : seen - lo ≡ length (w .queue .tasks) = omega (arith, g .count) in
-      let steps : stepsUp (workerTail m .at -ℤ m .head .at) ≡ length (w .queue .tasks) =
-      (λ j. stepsUp (seen-tail (v .sound .buffer) j .at -ℤ head j .at))
-      ∙ ap stepsUp (idx-minus seen lo (omega (arith, v .sound .head .floor)) (omega (arith, g .count)))
+      let many : seen - lo ≡ length (w .queue .tasks) = omega (arith, g .count, ap stolen alone, level) in
+      (λ j. stepsUp (seen-tail (v .sound .buffer) j .at -ℤ head-lo j .at))
+      ∙ ap stepsUp (idx-minus seen lo (omega (arith, v .sound .head .floor)) (omega (arith, g .count, level)))
       ∙ many
-      in
-      let from : lo + stolen (v .inside) ≡ lo = omega arith in
-      let load : (k : ℕ) → workerLoad m (record { at = m .head .at +ℤ pos k }) ≡ workerLoad m (idx (lo + k)) =
-      λ k. ap (λ i. workerLoad m (record { at = i .at +ℤ pos k })) head ∙ ap (workerLoad m) (idx-plus lo k)
-      in
-      shows-list (λ k. workerLoad m (idx k)) lo (w .queue .tasks) (shows-as (λ k. workerLoad m (idx k)) (lo + stolen (v .inside)) (w .queue .tasks) (g .shows) lo from)
-      ∙ sym (λ j. map (λ k. load k j) (upTo (steps j)))
+
+  load-lo : (k : ℕ) → workerLoad (w .machine) (record { at = w .machine .head .at +ℤ pos k }) ≡ workerLoad (w .machine) (idx (v .sound .head .lo + k))
+  load-lo k =
+      ap (λ i. workerLoad (w .machine) (record { at = i .at +ℤ pos k })) head-lo ∙ ap (workerLoad (w .machine)) (idx-plus (v .sound .head .lo) k)
+
+  shown : Shows (λ k. workerLoad (w .machine) (idx k)) (v .sound .head .lo) (w .queue .tasks)
+  shown =
+      let lo = v .sound .head .lo in
+      shows-as (λ k. workerLoad (w .machine) (idx k)) (lo + stolen (v .inside)) (w .queue .tasks) (v .agrees enough .shows) lo (omega (arith, ap stolen alone))
+
+  -- the slots from head on show the tasks that stand
+  standing : map (λ t. t .number) (w .queue .tasks) ≡ standingInSlots (w .machine)
+  standing =
+      shows-list (λ k. workerLoad (w .machine) (idx k)) (v .sound .head .lo) (w .queue .tasks) shown
+      ∙ sym (λ j. map (λ k. load-lo k j) (upTo (steps-many j)))
 
 -- ── The claim ───────────────────────────────────────────────────────────────────────────────────────────────────────────────
 
