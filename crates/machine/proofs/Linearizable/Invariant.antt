@@ -256,7 +256,7 @@ pub record Pending (z : Sizes) (tail : Index) (b : StoreBuffer) : Type 0 where
   pub tail-ranged : indexInRange tail ≡ true
 
 -- Head, by what the thief inside has done to it.
-pub record Heading (start : ℕ) (head : Index) (p : ThiefCall) : Type 0 where
+pub record HeadState (start : ℕ) (head : Index) (p : ThiefCall) : Type 0 where
   -- where a stolen task lies that is still to be loaded, or else the oldest task
   pub lo : ℕ
   -- head is lo, or one above while the thief has raised it
@@ -267,11 +267,11 @@ pub record Heading (start : ℕ) (head : Index) (p : ThiefCall) : Type 0 where
   pub top : lo + stolen p ≤ 2147483648
 
 -- memory's head
-abbrev pub head-at : {start : ℕ} {head : Index} {p : ThiefCall} → Heading start head p → ℕ
+abbrev pub head-at : {start : ℕ} {head : Index} {p : ThiefCall} → HeadState start head p → ℕ
 head-at {p = p} v = v .lo + (raised p + stolen p)
 
 -- The queue's tail, by what the worker has done to it.
-pub record Tailing (start seen : ℕ) (c : WorkerCall) : Type 0 where
+pub record TailState (start seen : ℕ) (c : WorkerCall) : Type 0 where
   pub holds-tail : HoldsTail c seen
   -- the queue's tail is never below start, nor above its greatest value, also after a put that has passed its test
   pub floor : start + 1 ≤ seen + lowered c
@@ -289,9 +289,9 @@ pub record Sound (n : ℕ) (m : Machine) (c : WorkerCall) (p : ThiefCall) : Type
   -- the pending stores lead from memory's tail to the worker's
   pub buffer : Pending (m .sizes) (m .tail) (m .buffer)
   -- head is where the thief inside has left it
-  pub head : Heading (m .sizes .start) (m .head) p
+  pub head : HeadState (m .sizes .start) (m .head) p
   -- the queue's tail is where the worker's call has left it
-  pub tail : Tailing (m .sizes .start) (buffer .seen) c
+  pub tail : TailState (m .sizes .start) (buffer .seen) c
   -- the next take store is as far off as the spacing rule keeps it
   pub spaced : Spaced c (buffer .owed) (asked (m .taken) (m .sizes .spacing) (m .since)) (m .sizes .spacing)
   -- the spacing count counts entries

@@ -24,7 +24,7 @@ use Rattle.machine.proofs.Laws.Chain.{between, no-store, none, slot}
 use Rattle.machine.proofs.Laws.Loads.{pushed-workerLoad, pushed-workerTail, slotAfter-apart}
 use Rattle.machine.proofs.Linearizable.Invariant.{AgreesOn, Sound, head-at, raised-stolen, stolen}
 use Rattle.machine.proofs.Linearizable.Tasks.{replies-end, replies-full, replies-stored, shows-joined}
-use Rattle.machine.proofs.Linearizable.Turn.{StepTurn, answers-at-once, moves, worked}
+use Rattle.machine.proofs.Linearizable.Turn.{StepTurn, answers-at-once, moves, afterWorker}
 use Rattle.machine.proofs.Linearizable.Rebuild.{agrees-call, inside-cells, pushed-shows, pushed-unwritten, pushes, pushing, rebuilt, recalled, recalls, refused, seen-tail, tail-raising, tail-shows, tail-unwritten}
 
 module _ {n : ℕ} {m : Machine} {p : ThiefCall} (q : PlainQueue) where
@@ -41,7 +41,7 @@ module _ {n : ℕ} {m : Machine} {p : ThiefCall} (q : PlainQueue) where
         (λ i. leZ (pos (m .sizes .slots) -ℤ pos 1) (seen-tail (v .buffer) i .at -ℤ v .head .head-is i .at))
         ∙ idx-full (m .sizes .slots) (v .buffer .seen) (head-at (v .head)) (omega (arith, v .head .floor))
 
-    abbrev idle : Sound (n + 1) (worked m (m .lock) (m .buffer) (m .since) (m .taken) WorkerCall.Idle) WorkerCall.Idle p
+    abbrev idle : Sound (n + 1) (afterWorker m (m .lock) (m .buffer) (m .since) (m .taken) WorkerCall.Idle) WorkerCall.Idle p
     idle = recalled v (m .lock) WorkerCall.Idle (record { holds-tail = tt; floor = v .tail .floor; top = v .tail .top }) (v .spaced) (v .lock)
 
     -- the sum is the largest
@@ -100,14 +100,14 @@ module _ {n : ℕ} {m : Machine} {p : ThiefCall} (q : PlainQueue) where
         (omega (arith, v .counted))
         (v .lock)
         in
-        let m′ = worked m (m .lock) (push a (m .buffer)) (m .since) (m .taken) PutStoreTail in
+        let m′ = afterWorker m (m .lock) (push a (m .buffer)) (m .since) (m .taken) PutStoreTail in
         let tail : workerTail m′ ≡ idx seen = pushed-workerTail a m cells ∙ seen-tail (v .buffer) in
         let filled : workerLoad m′ (idx seen) ≡ x =
         pushed-workerLoad a m (idx seen) cells
         ∙ ap (λ b. cond b x (workerLoad m (idx seen))) (eq-eqb (slotOf (m .sizes .slots) (idx seen)) (slotOf (m .sizes .slots) (idx seen)) refl)
         in
         pushes v Moved [] a PutStoreTail
-        (ap (λ i. done Moved (worked m (m .lock) (push (slotStore i x) (m .buffer)) (m .since) (m .taken) PutStoreTail)) (sym (seen-tail (v .buffer))))
+        (ap (λ i. done Moved (afterWorker m (m .lock) (push (slotStore i x) (m .buffer)) (m .since) (m .taken) PutStoreTail)) (sym (seen-tail (v .buffer))))
         refl
         sound
         (λ g.
@@ -150,7 +150,7 @@ module _ {n : ℕ} {m : Machine} {p : ThiefCall} (q : PlainQueue) where
         (v .lock)
         in
         pushes v Stored (toldPut x false ∷ []) a WorkerCall.Idle
-        (ap (λ i. done Stored (worked m (m .lock) (push (tailStore i) (m .buffer)) (m .since) (m .taken) WorkerCall.Idle))
+        (ap (λ i. done Stored (afterWorker m (m .lock) (push (tailStore i) (m .buffer)) (m .since) (m .taken) WorkerCall.Idle))
         (sym (ap next (seen-tail (v .buffer)) ∙ idx-next seen)))
         refl
         sound

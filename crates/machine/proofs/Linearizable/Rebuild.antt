@@ -23,9 +23,9 @@ use Rattle.machine.proofs.Laws.Index.{idx, idx-in-range}
 use Rattle.machine.proofs.Laws.StoreBuffer.{push-pending}
 use Rattle.machine.proofs.Laws.Chain.{Chain, SlotsWithin, none, no-store, past-tail, up, chain-push, chain-raise, chain-tail, slots-append}
 use Rattle.machine.proofs.Laws.Loads.{pushed-workerLoad}
-use Rattle.machine.proofs.Linearizable.Invariant.{Agrees, AgreesOn, Exclusive, Pending, Shows, Sound, Spaced, Tailing, Unwritten, asked, filling, holds, locked, lowered, stolen, workerBegun}
+use Rattle.machine.proofs.Linearizable.Invariant.{Agrees, AgreesOn, Exclusive, Pending, Shows, Sound, Spaced, TailState, Unwritten, asked, filling, holds, locked, lowered, stolen, workerBegun}
 use Rattle.machine.proofs.Linearizable.Tasks.{shows-load}
-use Rattle.machine.proofs.Linearizable.Turn.{Turn, WorkerTurn, stands, toldIn, worked}
+use Rattle.machine.proofs.Linearizable.Turn.{Turn, WorkerTurn, refuses, toldIn, afterWorker}
 
 -- ── The pending stores ──────────────────────────────────────────────────────────────────────────────────────────────────────
 
@@ -66,11 +66,11 @@ module _ {n : ℕ} {m : Machine} {c : WorkerCall} {p : ThiefCall} (v : Sound n m
   -- a sound machine, from what an entry changes
   abbrev pub rebuilt :
       (l : Lock) (b : StoreBuffer) (since : ℕ) (taken : Bool) (c′ : WorkerCall) (buffer : Pending (m .sizes) (m .tail) b)
-      → Tailing (m .sizes .start) (buffer .seen) c′
+      → TailState (m .sizes .start) (buffer .seen) c′
       → Spaced c′ (buffer .owed) (asked taken (m .sizes .spacing) since) (m .sizes .spacing)
       → since ≤ n + 1
       → Exclusive (l .holder) (locked c′) p
-      → Sound (n + 1) (worked m l b since taken c′) c′ p
+      → Sound (n + 1) (afterWorker m l b since taken c′) c′ p
   rebuilt l b since taken c′ buffer tail spaced counted lock =
       record {
         sizes = v .sizes;
@@ -86,10 +86,10 @@ module _ {n : ℕ} {m : Machine} {c : WorkerCall} {p : ThiefCall} (v : Sound n m
   -- .. where nothing changes but the call, and maybe the lock
   abbrev pub recalled :
       (l : Lock) (c′ : WorkerCall)
-      → Tailing (m .sizes .start) (v .buffer .seen) c′
+      → TailState (m .sizes .start) (v .buffer .seen) c′
       → Spaced c′ (v .buffer .owed) (asked (m .taken) (m .sizes .spacing) (m .since)) (m .sizes .spacing)
       → Exclusive (l .holder) (locked c′) p
-      → Sound (n + 1) (worked m l (m .buffer) (m .since) (m .taken) c′) c′ p
+      → Sound (n + 1) (afterWorker m l (m .buffer) (m .since) (m .taken) c′) c′ p
   recalled l c′ tail spaced lock =
       rebuilt l (m .buffer) (m .since) (m .taken) c′ (v .buffer) tail spaced (omega (arith, v .counted)) lock
 
@@ -187,8 +187,8 @@ module _ {n : ℕ} {m : Machine} {c : WorkerCall} {p : ThiefCall} (v : Sound n m
   -- a refused entry
   pub refused : (o : Outcome) → m .worker .call ≡ c → isRefusal o ≡ true → isAnswer o ≡ false → WorkerTurn v q e effect (done o m)
   refused o at refusal no-answer =
-      let whole : worked m (m .lock) (m .buffer) (m .since) (m .taken) c ≡ m =
-      ap (worked m (m .lock) (m .buffer) (m .since) (m .taken)) (sym at)
+      let whole : afterWorker m (m .lock) (m .buffer) (m .since) (m .taken) c ≡ m =
+      ap (afterWorker m (m .lock) (m .buffer) (m .since) (m .taken)) (sym at)
       in
       record {
         outcome = o;
@@ -202,7 +202,7 @@ module _ {n : ℕ} {m : Machine} {c : WorkerCall} {p : ThiefCall} (v : Sound n m
         told-is = rw refusal;
         holder = λ i. refl;
         sound = recalled v (m .lock) c (v .tail) (v .spaced) (v .lock);
-        turn = λ a. stands refusal no-answer (ap (λ m. workerBegun m c) whole) (ap (λ m. workerOwes m c) whole) (agrees-call refl (a .room) a);
+        turn = λ a. refuses refusal no-answer (ap (λ m. workerBegun m c) whole) (ap (λ m. workerOwes m c) whole) (agrees-call refl (a .room) a);
       }
 
   -- an entry that changes the call, and maybe the lock
@@ -210,13 +210,13 @@ module _ {n : ℕ} {m : Machine} {c : WorkerCall} {p : ThiefCall} (v : Sound n m
       (o : Outcome) (told : List Told) (l : Lock) (c′ : WorkerCall)
       → told ≡ toldIn (workerBegun m c) o (effect o)
       → ((i : ℕ) → holds (l .holder) i ≡ holds (m .lock .holder) i)
-      → (sound : Sound (n + 1) (worked m l (m .buffer) (m .since) (m .taken) c′) c′ p)
+      → (sound : Sound (n + 1) (afterWorker m l (m .buffer) (m .since) (m .taken) c′) c′ p)
       → (AgreesOn v q
       → Turn (m .sizes .slots) (workerBegun m c) (workerOwes m c) q told o e
-      (workerBegun (worked m l (m .buffer) (m .since) (m .taken) c′) c′)
-      (workerOwes (worked m l (m .buffer) (m .since) (m .taken) c′) c′)
+      (workerBegun (afterWorker m l (m .buffer) (m .since) (m .taken) c′) c′)
+      (workerOwes (afterWorker m l (m .buffer) (m .since) (m .taken) c′) c′)
       (AgreesOn sound))
-      → WorkerTurn v q e effect (done o (worked m l (m .buffer) (m .since) (m .taken) c′))
+      → WorkerTurn v q e effect (done o (afterWorker m l (m .buffer) (m .since) (m .taken) c′))
   recalls o told l c′ told-is holder sound turn =
       record {
         outcome = o;
@@ -236,13 +236,13 @@ module _ {n : ℕ} {m : Machine} {c : WorkerCall} {p : ThiefCall} (v : Sound n m
   -- an entry that makes a store, which is a as the chain has it
   pub pushes :
       {d : Done} (o : Outcome) (told : List Told) (a : Store) (c′ : WorkerCall)
-      → done o (worked m (m .lock) (push a (m .buffer)) (m .since) (m .taken) c′) ≡ d
+      → done o (afterWorker m (m .lock) (push a (m .buffer)) (m .since) (m .taken) c′) ≡ d
       → told ≡ toldIn (workerBegun m c) o (effect o)
-      → (sound : Sound (n + 1) (worked m (m .lock) (push a (m .buffer)) (m .since) (m .taken) c′) c′ p)
+      → (sound : Sound (n + 1) (afterWorker m (m .lock) (push a (m .buffer)) (m .since) (m .taken) c′) c′ p)
       → (AgreesOn v q
       → Turn (m .sizes .slots) (workerBegun m c) (workerOwes m c) q told o e
-      (workerBegun (worked m (m .lock) (push a (m .buffer)) (m .since) (m .taken) c′) c′)
-      (workerOwes (worked m (m .lock) (push a (m .buffer)) (m .since) (m .taken) c′) c′)
+      (workerBegun (afterWorker m (m .lock) (push a (m .buffer)) (m .since) (m .taken) c′) c′)
+      (workerOwes (afterWorker m (m .lock) (push a (m .buffer)) (m .since) (m .taken) c′) c′)
       (AgreesOn sound))
       → WorkerTurn v q e effect d
   pushes o told a c′ is told-is sound turn =

@@ -22,7 +22,7 @@ use Rattle.machine.specs.Linearizable.{answersTo, thiefOwes, workerOwes}
 use Rattle.machine.proofs.Laws.Tests.{both-right, decide}
 use Rattle.machine.proofs.Laws.Loads.{drained}
 use Rattle.machine.proofs.Linearizable.Invariant.{AgreesOn, Follows, InPlace, Invariant, Sound, holds, outside, thiefBegun, workerBegun}
-use Rattle.machine.proofs.Linearizable.Turn.{ThiefTurn, Turn, WorkerTurn, begunAfter, orElse, owedAfter, raided, toldIn, worked}
+use Rattle.machine.proofs.Linearizable.Turn.{ThiefTurn, Turn, WorkerTurn, begunAfter, orElse, owedAfter, afterThief, toldIn, afterWorker}
 use Rattle.machine.proofs.Linearizable.Worker.{begin-put, begin-take, client-store, worker-step}
 use Rattle.machine.proofs.Linearizable.Thief.{begin-steal, thief-step}
 use Rattle.machine.proofs.Linearizable.Drain.{drained-agrees, drained-begun, drained-owes, drained-sound, drained-stolen}
@@ -127,7 +127,7 @@ module _ {s : Sizes} {n : ℕ} {w : Watch} (v : Invariant s n w) where
       m = w .machine
 
       m′ : Machine
-      m′ = worked m (t .lock) (t .buffer) (t .since) (t .taken) (t .call)
+      m′ = afterWorker m (t .lock) (t .buffer) (t .since) (t .taken) (t .call)
 
       turn : enoughMargin s ≡ true → Turned (m .sizes .slots) (w .calls worker) (w .queue) (toldBy w worker e (done (t .outcome) m′)) (t .outcome) e (workerBegun m′ (t .call)) (workerOwes m′ (t .call)) (AgreesOn (t .sound))
       turn enough =
@@ -165,7 +165,7 @@ module _ {s : Sizes} {n : ℕ} {w : Watch} (v : Invariant s n w) where
       m = w .machine
 
       m′ : Machine
-      m′ = raided m (t .head) (t .lock) i (t .call)
+      m′ = afterThief m (t .head) (t .lock) i (t .call)
 
       enough-here : enoughMargin s ≡ true → enoughMargin (m .sizes) ≡ true
       enough-here enough = ap enoughMargin (v .sizes-are) ∙ enough

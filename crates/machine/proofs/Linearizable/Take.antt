@@ -23,8 +23,8 @@ use Rattle.machine.proofs.Laws.Tests.{both-left, decide, known}
 use Rattle.machine.proofs.Laws.Index.{idx, idx-le, idx-next, idx-previous}
 use Rattle.machine.proofs.Laws.Chain.{Chain, down, none}
 use Rattle.machine.proofs.Linearizable.Invariant.{Agrees, AgreesOn, Exclusive, Sound, asked, filling, head-at, holds, lowered, raised, stolen, taskAt, workerBegun}
-use Rattle.machine.proofs.Linearizable.Tasks.{replies-empty, replies-taken, shows-taken, taken}
-use Rattle.machine.proofs.Linearizable.Turn.{StepTurn, Turn, ends, moves, takes-effect, toldIn, worked}
+use Rattle.machine.proofs.Linearizable.Tasks.{replies-empty, replies-taken, shows-taken}
+use Rattle.machine.proofs.Linearizable.Turn.{StepTurn, Turn, ends, moves, takes-effect, toldIn, afterWorker}
 use Rattle.machine.proofs.Linearizable.Exclusion.{free-holds, free-quiet, working-holds, working-quiet}
 use Rattle.machine.proofs.Linearizable.Rebuild.{agrees-call, pushes, rebuilt, recalled, recalls, refused, seen-tail, tail-agrees, tail-pushing, tail-raising}
 
@@ -64,7 +64,7 @@ module _ {n : ℕ} {m : Machine} {c : WorkerCall} {p : ThiefCall} (v : Sound n m
       → v .buffer .owed ≤ asked (m .taken) (m .sizes .spacing) (m .since)
       → Exclusive (l .holder) false p
       → ((i : ℕ) → holds (l .holder) i ≡ holds (m .lock .holder) i)
-      → StepTurn v q (done o (worked m l (m .buffer) (m .since) (m .taken) WorkerCall.Idle))
+      → StepTurn v q (done o (afterWorker m l (m .buffer) (m .since) (m .taken) WorkerCall.Idle))
   answers-owed o l answer told owes level still spaced lock holder =
       recalls v o [] l WorkerCall.Idle told holder (recalled v l WorkerCall.Idle (record { holds-tail = tt; floor = omega (arith, v .tail .floor); top = omega (arith, v .tail .top) }) spaced lock)
       (λ g. ends answer owes (agrees-call level (omega (arith, g .room)) g))
@@ -109,7 +109,7 @@ module _ {n : ℕ} {m : Machine} {p : ThiefCall} (q : PlainQueue) where
         (v .lock)
         in
         pushes v Moved [] a (TakeLoadHead (idx (seen - 1)))
-        (ap (λ i. done Moved (worked m (m .lock) (push (tailStore i) (m .buffer)) (m .since) (m .taken) (TakeLoadHead i))) lower)
+        (ap (λ i. done Moved (afterWorker m (m .lock) (push (tailStore i) (m .buffer)) (m .since) (m .taken) (TakeLoadHead i))) lower)
         refl
         sound
         (λ g. moves {A = AgreesOn sound} refl refl (tail-agrees v room (seen - 1) q (omega arith) refl g))
@@ -209,7 +209,7 @@ module _ {n : ℕ} {m : Machine} {p : ThiefCall} (q : PlainQueue) where
         (v .lock)
         in
         pushes v Moved [] a TakeUnlockEmpty
-        (ap (λ i. done Moved (worked m (m .lock) (push (tailStore i) (m .buffer)) (m .since) (m .taken) TakeUnlockEmpty))
+        (ap (λ i. done Moved (afterWorker m (m .lock) (push (tailStore i) (m .buffer)) (m .since) (m .taken) TakeUnlockEmpty))
         (sym (ap next (v .tail .holds-tail) ∙ idx-next seen)))
         refl
         sound

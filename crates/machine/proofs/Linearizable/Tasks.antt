@@ -34,11 +34,11 @@ module _ (q : PlainQueue) where
   abbrev pub gives : StoredTask → PlainQueue → Reply
   gives t after = record { queue = after; answer = Task (t .number); given = t ∷ [] }
 
-  abbrev pub taken : PlainQueue
-  taken = record { tasks = withoutNewest (q .tasks); sum = q .sum - 1; stored = q .stored }
+  abbrev pub afterTake : PlainQueue
+  afterTake = record { tasks = withoutNewest (q .tasks); sum = q .sum - 1; stored = q .stored }
 
-  abbrev pub robbed : PlainQueue
-  robbed = record { tasks = drop 1 (q .tasks); sum = q .sum; stored = q .stored }
+  abbrev pub afterSteal : PlainQueue
+  afterSteal = record { tasks = drop 1 (q .tasks); sum = q .sum; stored = q .stored }
 
   pub replies-end : (x : ℕ) (full : Bool) → q .sum ≡ 2147483647 → unchanged q End ≡ respond q (toldPut x full)
   replies-end x full e = rw (eq-eqb (q .sum) 2147483647 e)
@@ -49,14 +49,14 @@ module _ (q : PlainQueue) where
   pub replies-stored : (x : ℕ) → (q .sum ≡ 2147483647 → ⊥) → joined x q ≡ respond q (toldPut x false)
   replies-stored x e = rw (ne-eqb (q .sum) 2147483647 e)
 
-  pub replies-taken : 0 < length (q .tasks) → gives (taskAt (q .tasks) (length (q .tasks) - 1)) taken ≡ respond q toldTake
-  replies-taken some = ap (λ l. leaves l taken q Empty) (newest-last (q .tasks) some)
+  pub replies-taken : 0 < length (q .tasks) → gives (taskAt (q .tasks) (length (q .tasks) - 1)) afterTake ≡ respond q toldTake
+  replies-taken some = ap (λ l. leaves l afterTake q Empty) (newest-last (q .tasks) some)
 
   pub replies-empty : length (q .tasks) ≡ 0 → unchanged q Empty ≡ respond q toldTake
-  replies-empty none = ap (λ l. leaves (newest l) taken q Empty) (none-stands (q .tasks) none)
+  replies-empty none = ap (λ l. leaves (newest l) afterTake q Empty) (none-stands (q .tasks) none)
 
-  pub replies-robbed : 0 < length (q .tasks) → gives (taskAt (q .tasks) 0) robbed ≡ respond q (toldSteal false)
-  replies-robbed some = ap (λ l. leaves l robbed q Abort) (oldest-first (q .tasks) some)
+  pub replies-stolen : 0 < length (q .tasks) → gives (taskAt (q .tasks) 0) afterSteal ≡ respond q (toldSteal false)
+  replies-stolen some = ap (λ l. leaves l afterSteal q Abort) (oldest-first (q .tasks) some)
 
 -- ── Tasks in the slots ──────────────────────────────────────────────────────────────────────────────────────────────────────
 
@@ -87,8 +87,8 @@ module _ (load : ℕ → ℕ) (lo : ℕ) (l : List StoredTask) (shows : Shows lo
       ap (λ a. a .number) (getD-take (length l - 1) l k (record { put = 0; number = 0 }) within) ∙ shows k (omega arith)
 
   -- .. without the oldest
-  pub shows-robbed : Shows load (lo + 1) (drop 1 l)
-  shows-robbed k h =
+  pub shows-stolen : Shows load (lo + 1) (drop 1 l)
+  shows-stolen k h =
       let within : 1 + k < length l = omega (arith, simp length-drop at h) in
       ap (λ a. a .number) (getD-drop 1 l k (record { put = 0; number = 0 })) ∙ shows (1 + k) within ∙ ap load (omega arith)
 

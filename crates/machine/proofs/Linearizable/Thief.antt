@@ -27,9 +27,9 @@ use Rattle.machine.proofs.Laws.Sizes.{marginInUse-some}
 use Rattle.machine.proofs.Laws.Index.{idx, idx-as, idx-in-range, idx-margin, idx-next}
 use Rattle.machine.proofs.Laws.Chain.{chain-safe}
 use Rattle.machine.proofs.Laws.Loads.{slots-leave}
-use Rattle.machine.proofs.Linearizable.Invariant.{Agrees, AgreesOn, Exclusive, Heading, InPlace, Sound, Unwritten, head-at, holds, locked, outside, raised, stolen, taskAt, thiefBegun}
-use Rattle.machine.proofs.Linearizable.Tasks.{replies-robbed, robbed, shows-as, shows-robbed}
-use Rattle.machine.proofs.Linearizable.Turn.{StealTurn, ThiefTurn, Turn, ends, moves, raided, stands, takes-effect, toldIn}
+use Rattle.machine.proofs.Linearizable.Invariant.{Agrees, AgreesOn, Exclusive, HeadState, InPlace, Sound, Unwritten, head-at, holds, locked, outside, raised, stolen, taskAt, thiefBegun}
+use Rattle.machine.proofs.Linearizable.Tasks.{replies-stolen, afterSteal, shows-as, shows-stolen}
+use Rattle.machine.proofs.Linearizable.Turn.{StealTurn, ThiefTurn, Turn, ends, moves, afterThief, refuses, takes-effect, toldIn}
 use Rattle.machine.proofs.Linearizable.Exclusion.{free-outside, free-quiet, held-outside, holder-stays, inside-holds, others-stay, outside-stays}
 
 -- ── The invariant, rebuilt ──────────────────────────────────────────────────────────────────────────────────────────────────
@@ -37,8 +37,8 @@ use Rattle.machine.proofs.Linearizable.Exclusion.{free-outside, free-qu
 module _ {n : ℕ} {m : Machine} {c : WorkerCall} where
   -- a sound machine, from what an entry changes
   abbrev reheaded :
-      {p : ThiefCall} (v : Sound n m c p) (h : Index) (l : Lock) (i : ℕ) (call p′ : ThiefCall) → Heading (m .sizes .start) h p′
-      → Exclusive (l .holder) (locked c) p′ → Sound (n + 1) (raided m h l i call) c p′
+      {p : ThiefCall} (v : Sound n m c p) (h : Index) (l : Lock) (i : ℕ) (call p′ : ThiefCall) → HeadState (m .sizes .start) h p′
+      → Exclusive (l .holder) (locked c) p′ → Sound (n + 1) (afterThief m h l i call) c p′
   reheaded v h l i call p′ head lock =
       record {
         sizes = v .sizes;
@@ -85,8 +85,8 @@ refused {m = m} {p = p} v {i = i} own o at place refusal no-answer =
       thieves = t;
     }
     in
-    let whole : raided m (m .head) (m .lock) i own ≡ m =
-    ap (raided m (m .head) (m .lock) i) (sym at) ∙ ap with-thieves (set-getD (m .thieves) i idleThief)
+    let whole : afterThief m (m .head) (m .lock) i own ≡ m =
+    ap (afterThief m (m .head) (m .lock) i) (sym at) ∙ ap with-thieves (set-getD (m .thieves) i idleThief)
     in
     record {
       outcome = o;
@@ -100,28 +100,28 @@ refused {m = m} {p = p} v {i = i} own o at place refusal no-answer =
       in-place = place;
       others = λ j other apart there. there;
       sound = reheaded v (m .head) (m .lock) i own p (v .head) (v .lock);
-      turn = λ enough a. stands refusal no-answer refl (ap (λ m. thiefOwes m own) whole) (agrees-inside refl (a .unwritten) a);
+      turn = λ enough a. refuses refusal no-answer refl (ap (λ m. thiefOwes m own) whole) (agrees-inside refl (a .unwritten) a);
     }
 
 -- ── Inside the lock ─────────────────────────────────────────────────────────────────────────────────────────────────────────
 
 module _ {n : ℕ} {m : Machine} {c : WorkerCall} (q : PlainQueue) (i : ℕ) (held : m .lock .holder ≡ TheThief i) (there : i < m .sizes .thieves) (quiet : locked c ≡ false) where
   -- the thief stays inside
-  abbrev staying :
-      {own : ThiefCall} (v : Sound n m c own) (h : Index) (p : ThiefCall) → outside p ≡ false → Heading (m .sizes .start) h p
-      → Sound (n + 1) (raided m h (m .lock) i p) c p
-  staying v h p inside head = reheaded v h (m .lock) i p p head (subst (λ l. Exclusive l (locked c) p) (sym held) (quiet, inside))
+  abbrev insideState :
+      {own : ThiefCall} (v : Sound n m c own) (h : Index) (p : ThiefCall) → outside p ≡ false → HeadState (m .sizes .start) h p
+      → Sound (n + 1) (afterThief m h (m .lock) i p) c p
+  insideState v h p inside head = reheaded v h (m .lock) i p p head (subst (λ l. Exclusive l (locked c) p) (sym held) (quiet, inside))
 
   stays :
-      {own : ThiefCall} (v : Sound n m c own) (told : List Told) (h : Index) (p : ThiefCall) (inside : outside p ≡ false) (head : Heading (m .sizes .start) h p)
+      {own : ThiefCall} (v : Sound n m c own) (told : List Told) (h : Index) (p : ThiefCall) (inside : outside p ≡ false) (head : HeadState (m .sizes .start) h p)
       → told ≡ toldIn (thiefBegun own) Moved (thiefEffect m own)
       → (enoughMargin (m .sizes) ≡ true
       → AgreesOn v q
       → Turn (m .sizes .slots) (thiefBegun own) (thiefOwes m own) q told Moved (ThiefStep i)
       (thiefBegun p)
-      (thiefOwes (raided m h (m .lock) i p) p)
-      (AgreesOn (staying v h p inside head)))
-      → StealTurn v q i own (done Moved (raided m h (m .lock) i p))
+      (thiefOwes (afterThief m h (m .lock) i p) p)
+      (AgreesOn (insideState v h p inside head)))
+      → StealTurn v q i own (done Moved (afterThief m h (m .lock) i p))
   stays {own = own} v told h p inside head told-is turn =
       record {
         outcome = Moved;
@@ -136,7 +136,7 @@ module _ {n : ℕ} {m : Machine} {c : WorkerCall} (q : PlainQueue) (i : ℕ) (he
         others = λ j other apart place.
             subst (λ l. InPlace (holds l j) (m .sizes .thieves) j p other) (sym held)
             (others-stay i j (m .sizes .thieves) p other apart (held-outside (m .lock .holder) i j (m .sizes .thieves) own other held apart place));
-        sound = staying v h p inside head;
+        sound = insideState v h p inside head;
         turn = turn;
       }
 
@@ -191,15 +191,15 @@ module _ {n : ℕ} {m : Machine} {c : WorkerCall} (q : PlainQueue) (i : ℕ) (he
         ∙ slots-leave (pending (m .buffer)) (m .sizes .slots) lo (memoryLoad m (idx lo)) (omega (arith, v .head .floor)) (a .below) (safe .1)
         ∙ ap (memoryLoad m) (sym (v .head .holds-head))
         in
-        takes-effect (replies-robbed q standing) (lt-ltb 0 (length (q .tasks)) standing) refl (ap (λ x. Task x ∷ []) (sym oldest))
+        takes-effect (replies-stolen q standing) (lt-ltb 0 (length (q .tasks)) standing) refl (ap (λ x. Task x ∷ []) (sym oldest))
         (record {
           count = simp length-drop (omega (arith, a .count));
           sum = a .sum;
           room = a .room;
           below = a .below;
           shows =
-              shows-as (λ k. workerLoad m (idx k)) (lo + 0 + 1) (robbed q .tasks)
-              (shows-robbed (λ k. workerLoad m (idx k)) (lo + 0) (q .tasks) (a .shows))
+              shows-as (λ k. workerLoad m (idx k)) (lo + 0 + 1) (afterSteal q .tasks)
+              (shows-stolen (λ k. workerLoad m (idx k)) (lo + 0) (q .tasks) (a .shows))
               (lo + 1) (omega arith);
           unwritten = safe .1;
         }))
@@ -250,7 +250,7 @@ module _ {n : ℕ} {m : Machine} {c : WorkerCall} (q : PlainQueue) (i : ℕ) (he
       → thiefOwes m own ≡ o ∷ []
       → raised own ≡ 0
       → stolen own ≡ 0
-      → StealTurn v q i own (done o (raided m (m .head) (record { holder = Nobody }) i ThiefCall.Idle))
+      → StealTurn v q i own (done o (afterThief m (m .head) (record { holder = Nobody }) i ThiefCall.Idle))
   steal-unlock {own = own} v o told answer owes level whole =
       let here : m .head ≡ idx (v .head .lo + 0) = idx-as (head-at (v .head)) (v .head .lo + 0) (v .head .head-is) (omega arith) in
       record {

@@ -63,8 +63,8 @@ module _ {n : ℕ} {b b′ : Begun} {owed owed′ : List Outcome} {q : PlainQueu
       }
 
   -- the entry is refused
-  pub stands : {o : Outcome} → isRefusal o ≡ true → isAnswer o ≡ false → b′ ≡ b → owed′ ≡ owed → A q → Turn n b owed q [] o e b′ owed′ A
-  stands refusal no-answer begun owes agrees =
+  pub refuses : {o : Outcome} → isRefusal o ≡ true → isAnswer o ≡ false → b′ ≡ b → owed′ ≡ owed → A q → Turn n b owed q [] o e b′ owed′ A
+  refuses refusal no-answer begun owes agrees =
       record {
         replies = [];
         are = refl;
@@ -122,8 +122,8 @@ module _ {n : ℕ} {b : Begun} {q : PlainQueue} {t : Told} {r : Reply} {e : Entr
 -- ── The worker's entries, apart from a drain ────────────────────────────────────────────────────────────────────────────────
 
 -- they leave alone the slots, head, memory's tail, and the thieves
-abbrev pub worked : Machine → Lock → StoreBuffer → ℕ → Bool → WorkerCall → Machine
-worked m l b since taken c =
+abbrev pub afterWorker : Machine → Lock → StoreBuffer → ℕ → Bool → WorkerCall → Machine
+afterWorker m l b since taken c =
     record {
       sizes = m .sizes;
       slots = m .slots;
@@ -147,16 +147,16 @@ pub record WorkerTurn {n : ℕ} {m : Machine} {c : WorkerCall} {p : ThiefCall} (
   pub since : ℕ
   pub taken : Bool
   pub call : WorkerCall
-  pub is : done outcome (worked m lock buffer since taken call) ≡ d
+  pub is : done outcome (afterWorker m lock buffer since taken call) ≡ d
   pub told-is : told ≡ toldIn (workerBegun m c) outcome (effect outcome)
   -- no thief gets the lock or loses it
   pub holder : (i : ℕ) → holds (lock .holder) i ≡ holds (m .lock .holder) i
-  pub sound : Sound (n + 1) (worked m lock buffer since taken call) call p
+  pub sound : Sound (n + 1) (afterWorker m lock buffer since taken call) call p
   pub turn :
       AgreesOn v q
       → Turn (m .sizes .slots) (workerBegun m c) (workerOwes m c) q told outcome e
-      (workerBegun (worked m lock buffer since taken call) call)
-      (workerOwes (worked m lock buffer since taken call) call)
+      (workerBegun (afterWorker m lock buffer since taken call) call)
+      (workerOwes (afterWorker m lock buffer since taken call) call)
       (AgreesOn sound)
 
 -- a step of its call
@@ -166,8 +166,8 @@ StepTurn {m = m} {c = c} v q d = WorkerTurn v q WorkerStep (λ o. workerEffect o
 -- ── A thief's entries ───────────────────────────────────────────────────────────────────────────────────────────────────────
 
 -- they leave alone the slots, memory's tail, the pending stores, and the worker
-abbrev pub raided : Machine → Index → Lock → ℕ → ThiefCall → Machine
-raided m h l i c =
+abbrev pub afterThief : Machine → Index → Lock → ℕ → ThiefCall → Machine
+afterThief m h l i c =
     record {
       sizes = m .sizes;
       slots = m .slots;
@@ -191,20 +191,20 @@ pub record ThiefTurn {n : ℕ} {m : Machine} {c : WorkerCall} {p : ThiefCall} (v
   pub call : ThiefCall
   -- the call of the thief inside, afterwards
   pub inside : ThiefCall
-  pub is : done outcome (raided m head lock i call) ≡ d
+  pub is : done outcome (afterThief m head lock i call) ≡ d
   pub told-is : told ≡ toldIn (thiefBegun own) outcome effect
   -- every thief is in its place, inside the lock or outside
   pub in-place : InPlace (holds (lock .holder) i) (m .sizes .thieves) i inside call
   pub others :
       (j : ℕ) (other : ThiefCall) → (j ≡ i → ⊥) → InPlace (holds (m .lock .holder) j) (m .sizes .thieves) j p other
       → InPlace (holds (lock .holder) j) (m .sizes .thieves) j inside other
-  pub sound : Sound (n + 1) (raided m head lock i call) c inside
+  pub sound : Sound (n + 1) (afterThief m head lock i call) c inside
   pub turn :
       enoughMargin (m .sizes) ≡ true
       → AgreesOn v q
       → Turn (m .sizes .slots) (thiefBegun own) (thiefOwes m own) q told outcome e
       (thiefBegun call)
-      (thiefOwes (raided m head lock i call) call)
+      (thiefOwes (afterThief m head lock i call) call)
       (AgreesOn sound)
 
 -- a step of its call

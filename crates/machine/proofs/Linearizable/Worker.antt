@@ -16,7 +16,7 @@ use Rattle.machine.specs.Effect.{none}
 use Rattle.machine.proofs.Laws.Tests.{decide}
 use Rattle.machine.proofs.Laws.Chain.{client, no-store, none as no-link, past-client}
 use Rattle.machine.proofs.Linearizable.Invariant.{AgreesOn, Sound, asked, stolen}
-use Rattle.machine.proofs.Linearizable.Turn.{StepTurn, WorkerTurn, moves, worked}
+use Rattle.machine.proofs.Linearizable.Turn.{StepTurn, WorkerTurn, moves, afterWorker}
 use Rattle.machine.proofs.Linearizable.Rebuild.{agrees-call, pushed-shows, pushed-unwritten, pushing, rebuilt, recalled, recalls, refused}
 use Rattle.machine.proofs.Linearizable.Put.{put-load-head, put-store-slot, put-store-tail}
 use Rattle.machine.proofs.Linearizable.Take.{take-load-head, take-load-last-slot, take-load-slot, take-lock, take-reload-head, take-restore-tail, take-store-tail, take-unlock-empty, take-unlock-task}
@@ -104,7 +104,7 @@ module _ {n : ℕ} {m : Machine} {p : ThiefCall} (q : PlainQueue) where
           since = since;
           taken = m .taken;
           call = WorkerCall.Idle;
-          is = ap (λ c. done Moved (worked m (m .lock) (push clientStore (m .buffer)) since (m .taken) c)) (sym at);
+          is = ap (λ c. done Moved (afterWorker m (m .lock) (push clientStore (m .buffer)) since (m .taken) c)) (sym at);
           told-is = refl;
           holder = λ i. refl;
           sound = sound;
