@@ -1,4 +1,5 @@
 use crate::boolean::both;
+use crate::boolean::chosen;
 use crate::entry::Entry;
 use crate::index::Index;
 use crate::index::slot_of;
@@ -7,7 +8,6 @@ use crate::sizes::Sizes;
 use crate::store_buffer::Store;
 use crate::store_buffer::StoreBuffer;
 use crate::store_buffer::StoreKind;
-use crate::store_buffer::chosen;
 use crate::thief::Thief;
 use crate::thief::ThiefCall;
 use crate::thief::thieves_in_range;
@@ -124,10 +124,9 @@ impl Machine {
         requires { ⌜ (inRange self ≡ true) × (slotIndexInRange index ≡ true) ⌝ }
         ensures { λ r. ⌜ r ≡ workerLoad self index ⌝ }
     {
+        let value = self.memory_load(index);
         let slots = self.sizes.slots;
         let slot = slot_of(index, slots);
-        let memory = self.slots;
-        let value = memory[slot];
         let buffer = self.buffer;
         buffer.newest_in_slot(slots, slot, value)
     }

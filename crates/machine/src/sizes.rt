@@ -73,6 +73,7 @@ impl Sizes {
         let buffer = first_fault(1, 1, 64, self.buffer, spacing);
         first_fault(0, 2, 256, self.slots, buffer)
     }
+
     // Whether every size is in its range.
     pub(crate) fn in_range(self) -> bool
         ensures { λ r. ⌜ r ≡ sizesInRange self ⌝ }

@@ -1,4 +1,5 @@
 use crate::boolean::both;
+use crate::boolean::chosen;
 use crate::index::Index;
 use crate::index::slot_of;
 ghost use mathlib.Core.Path.{_≡_};
@@ -100,13 +101,6 @@ impl StoreKind {
     }
 }
 
-// The first where the test passed, else the second.
-pub(crate) fn chosen(test: bool, first: u32, second: u32) -> u32
-    ensures { λ r. ⌜ r ≡ cond test first second ⌝ }
-{
-    if test { first } else { second }
-}
-
 impl StoreBuffer {
     // The tail as the worker loads it, from memory's.
     pub(crate) fn newest_tail(self, tail: Index) -> Index
@@ -188,6 +182,7 @@ impl StoreBuffer {
         self.count = at + 1;
         self
     }
+
     // Whether every pending store is in range.
     pub(crate) fn in_range(self) -> bool
         ensures { λ r. ⌜ r ≡ all (λ s. storeInRange (s .kind)) (pending self) ⌝ }
