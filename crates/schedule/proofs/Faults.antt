@@ -1,0 +1,151 @@
+-- What is refused has the fault that is told, and what has a fault is refused: by the reader and by the writer.
+use mathlib.Core.Path.{_≡_, refl, ap, sym, _∙_}
+use mathlib.Core.Bool.{Bool, true, false, cond, not, _&&_, _||_}
+use mathlib.Core.List.{List}
+use Prim.Native.Nat.{ℕ, zero, suc, _+_, _*_, _≤_, _<_}
+use native.Mathlib.Omega.{arith}
+use lib.Dec.{eqb, leb, ltb}
+use lib.ListN.{getD, length}
+use borrow.Author.Tests.{eq-eqb, le-leb, le-ltb, lt-ltb, ltb-false, ltb-true, ne-eqb}
+use Rattle.schedule.specs.Types.{Accepted, Failed, Kind, Passed, Refusal, Room, Short, Size, Sizes, Who, Written}
+use Rattle.schedule.specs.declared.reader.Reading.the-variants as reading
+use Rattle.schedule.specs.declared.writer.Writing.the-variants as writing
+use Rattle.schedule.specs.Check.{checkRanges}
+use Rattle.schedule.specs.Entries.{checkEntries, checkOf, entryAt}
+use Rattle.schedule.specs.Faults.{ReaderRefusesFaults, WriterRefusesFaults, fileHas, hasFault, operandAllowed, writingHas}
+use Rattle.schedule.specs.Format.{entriesIn, kindsIn, operandsIn, sizesIn}
+use Rattle.schedule.specs.Reader as reader
+use Rattle.schedule.specs.Writer as writer
+use Rattle.schedule.proofs.Laws.Answers.{accepted-readable, refused-reading, refused-writing, written-writable}
+use Rattle.schedule.proofs.Laws.Check.{entries-passed, entry-passed, entryAt-check, failIf-failed, not-both}
+use Rattle.schedule.proofs.Laws.Check.{ranges-failed, ranges-passed, upTo-failed}
+use Rattle.schedule.proofs.Laws.Format.{length-kindsIn, length-operandsIn}
+
+-- ── What reader and writer share ────────────────────────────────────────────────────────────────────────────────────────────
+
+module _ (s : Sizes) (entries : ℕ) (kinds operands : List ℕ) (long : length kinds ≡ entries) (wrongLength noRoom : Bool) where
+  -- what the check of the sizes tells is a fault of the sizes
+  ranges-fault : (r : Refusal) → checkRanges s entries ≡ Failed r → hasFault s entries kinds operands wrongLength noRoom r ≡ true
+  ranges-fault r e = let found = ranges-failed s entries r e in rw (found .1 .0, found .1 .1)
+
+  -- what the check of an entry tells is a fault of this entry, or that the operands end before it
+  entry-fault : (r : Refusal) → ((at : ℕ) → at < length kinds → length operands ≤ at → wrongLength ≡ true)
+      → (at : ℕ) → at < length kinds → checkOf (entryAt (s .thieves) kinds operands at) ≡ Failed r
+      → hasFault s entries kinds operands wrongLength noRoom r ≡ true
+  entry-fault r ends at inside e =
+      go (ltb at (length operands)) (ltb 6 (getD kinds at 0)) (operandAllowed (s .thieves) (getD kinds at 0) (getD operands at 0)) refl refl refl
+      (sym (entryAt-check (s .thieves) kinds operands at inside) ∙ e)
+    where
+      go : (there past allowed : Bool) → ltb at (length operands) ≡ there → ltb 6 (getD kinds at 0) ≡ past
+          → operandAllowed (s .thieves) (getD kinds at 0) (getD operands at 0) ≡ allowed
+          → cond there (cond past (Failed (Kind at)) (cond allowed Passed (Failed (Who at)))) (Failed Short) ≡ Failed r
+          → hasFault s entries kinds operands wrongLength noRoom r ≡ true
+      go true true allowed t p a told =
+          let same : r ≡ Kind at = cc in rw (same, lt-ltb at entries (omega arith), p)
+      go true false true t p a told = absurd (not-both (sym told))
+      go true false false t p a told =
+          let same : r ≡ Who at = cc in
+          rw (same, lt-ltb at entries (omega arith), le-leb (getD kinds at 0) 6 (ltb-false 6 (getD kinds at 0) p), a)
+      go false past allowed t p a told =
+          let same : r ≡ Short = cc in rw same (ends at inside (ltb-false at (length operands) t))
+
+  entries-fault : (r : Refusal) → ((at : ℕ) → at < length kinds → length operands ≤ at → wrongLength ≡ true)
+      → checkEntries (s .thieves) kinds operands ≡ Failed r → hasFault s entries kinds operands wrongLength noRoom r ≡ true
+  entries-fault r ends e =
+      let found = upTo-failed (λ at. checkOf (entryAt (s .thieves) kinds operands at)) (length kinds) r e in
+      entry-fault r ends (found .0) (found .1 .0) (found .1 .1)
+
+  -- what passed every check has no fault
+  no-fault : checkRanges s entries ≡ Passed → wrongLength ≡ false → checkEntries (s .thieves) kinds operands ≡ Passed → noRoom ≡ false
+      → (r : Refusal) → hasFault s entries kinds operands wrongLength noRoom r ≡ false
+  no-fault ranges as-long each room (Size place) = rw (ranges-passed s entries ranges place)
+  no-fault ranges as-long each room Short = as-long
+  no-fault ranges as-long each room (Kind at) = go (ltb at entries) refl
+    where
+      go : (inside : Bool) → ltb at entries ≡ inside → (inside && ltb 6 (getD kinds at 0)) ≡ false
+      go true p =
+          let below : at < length kinds = omega (arith, ltb-true at entries p) in
+          entry-passed (s .thieves) kinds operands at below (entries-passed (s .thieves) kinds operands each at below) .0
+      go false p = refl
+  no-fault ranges as-long each room (Who at) = go (ltb at entries) refl
+    where
+      go : (inside : Bool) → ltb at entries ≡ inside
+          → (inside && (leb (getD kinds at 0) 6 && not (operandAllowed (s .thieves) (getD kinds at 0) (getD operands at 0)))) ≡ false
+      go true p =
+          let below : at < length kinds = omega (arith, ltb-true at entries p) in
+          let passed = entry-passed (s .thieves) kinds operands at below (entries-passed (s .thieves) kinds operands each at below) in
+          rw (le-leb (getD kinds at 0) 6 (ltb-false 6 (getD kinds at 0) (passed .0)), passed .1)
+      go false p = refl
+  no-fault ranges as-long each room Room = room
+
+-- ── The reader ──────────────────────────────────────────────────────────────────────────────────────────────────────────────
+
+or-right : (a : Bool) {b : Bool} → b ≡ true → (a || b) ≡ true
+or-right true p = refl
+or-right false p = p
+
+or-neither : {a b : Bool} → a ≡ false → b ≡ false → (a || b) ≡ false
+or-neither p q = rw (p, q)
+
+-- a file is not as long as it should be
+abbrev wrong : List ℕ → Bool
+wrong file = ltb (length file) 28 || not (eqb (length file) (28 + 5 * entriesIn file))
+
+-- whatever a file's check failed with is a fault that it has
+check-fault : (file : List ℕ) (r : Refusal) (i : ℕ) → getD (reader.readingChecks file) i Passed ≡ Failed r → fileHas file r ≡ true
+check-fault file r zero e =
+    let found = failIf-failed (ltb (length file) 28) Short e in rw (found .1, found .0)
+check-fault file r (suc zero) e =
+    let n = entriesIn file in
+    ranges-fault (sizesIn file) n (kindsIn n file) (operandsIn n file) (length-kindsIn n file) (wrong file) false r e
+check-fault file r (suc (suc zero)) e =
+    let found = failIf-failed (not (eqb (length file) (28 + 5 * entriesIn file))) Short e in
+    rw (found .1) (or-right (ltb (length file) 28) (found .0))
+check-fault file r (suc (suc (suc zero))) e =
+    let n = entriesIn file in
+    entries-fault (sizesIn file) n (kindsIn n file) (operandsIn n file) (length-kindsIn n file) (wrong file) false r
+    (λ at inside ends. absurd (omega (arith, length-kindsIn n file, length-operandsIn n file))) e
+check-fault file r (suc (suc (suc (suc i)))) e = absurd (not-both (sym e))
+
+pub reader-refuses-faults : ReaderRefusesFaults
+reader-refuses-faults file r = (refused, accepted)
+  where
+    refused : reader.readFile file ≡ reading.Refused r → fileHas file r ≡ true
+    refused e = let found = refused-reading file r e in check-fault file r (found .0) (found .1)
+
+    accepted : (s : Sizes) (entries : ℕ) → reader.readFile file ≡ Accepted s entries → fileHas file r ≡ false
+    accepted s entries e =
+        let n = entriesIn file in
+        let p = accepted-readable file s entries e .1 .1 in
+        let there = le-ltb (length file) 28 (omega (arith, p .long)) in
+        let as-long = or-neither there (ap not (eq-eqb (length file) (28 + 5 * n) (p .long))) in
+        no-fault (sizesIn file) n (kindsIn n file) (operandsIn n file) (length-kindsIn n file) (wrong file) false
+        (p .ranges) as-long (p .each) refl r
+
+-- ── The writer ──────────────────────────────────────────────────────────────────────────────────────────────────────────────
+
+module _ (s : Sizes) (kinds operands : List ℕ) (room : ℕ) (r : Refusal) where
+  -- whatever a check failed with is a fault that there is
+  writing-fault : (i : ℕ) → getD (writer.writingChecks s kinds operands room) i Passed ≡ Failed r → writingHas s kinds operands room r ≡ true
+  writing-fault zero e =
+      ranges-fault s (length kinds) kinds operands refl (not (eqb (length kinds) (length operands))) (ltb room (28 + 5 * length kinds)) r e
+  writing-fault (suc zero) e =
+      let found = failIf-failed (not (eqb (length kinds) (length operands))) Short e in rw (found .1) (found .0)
+  writing-fault (suc (suc zero)) e =
+      entries-fault s (length kinds) kinds operands refl (not (eqb (length kinds) (length operands))) (ltb room (28 + 5 * length kinds)) r
+      (λ at inside ends. ap not (ne-eqb (length kinds) (length operands) (λ same. omega arith))) e
+  writing-fault (suc (suc (suc zero))) e =
+      let found = failIf-failed (ltb room (28 + 5 * length kinds)) Room e in rw (found .1) (found .0)
+  writing-fault (suc (suc (suc (suc i)))) e = absurd (not-both (sym e))
+
+pub writer-refuses-faults : WriterRefusesFaults
+writer-refuses-faults s kinds operands room r = (refused, written)
+  where
+    refused : writer.writeFile s kinds operands room ≡ writing.Refused r → writingHas s kinds operands room r ≡ true
+    refused e = let found = refused-writing s kinds operands room r e in writing-fault s kinds operands room r (found .0) (found .1)
+
+    written : (n : ℕ) → writer.writeFile s kinds operands room ≡ Written n → writingHas s kinds operands room r ≡ false
+    written n e =
+        let p = written-writable s kinds operands room n e .1 in
+        no-fault s (length kinds) kinds operands refl (not (eqb (length kinds) (length operands))) (ltb room (28 + 5 * length kinds))
+        (p .ranges) (ap not (eq-eqb (length kinds) (length operands) (p .parallel))) (p .each) (le-ltb room (28 + 5 * length kinds) (p .fits)) r

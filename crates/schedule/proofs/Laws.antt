@@ -1,0 +1,9 @@
+pub mod Number
+pub mod Format
+pub mod Overwritten
+pub mod Words
+pub mod Check
+pub mod Entries
+pub mod Answers
+pub mod Reader
+pub mod Writer

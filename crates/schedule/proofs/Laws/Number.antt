@@ -1,0 +1,59 @@
+-- Laws of numbers in bytes: as many bytes as asked for, each below 256; and there and back again, both ways.
+use mathlib.Core.Path.{_≡_, refl, ap, _∙_}
+use mathlib.Core.Bool.{true}
+use mathlib.Core.List.{List, [], _∷_}
+use Prim.Native.Nat.{ℕ, zero, suc, _+_, _*_, _/_, _%_, _^_, _<_}
+use native.Mathlib.Nat.{div-lt-iff-lt-mul, mod-add-div, pow-suc}
+use native.Mathlib.Omega.{arith}
+use lib.Dec.{ltb}
+use lib.ListN.{drop, length, take}
+use borrow.Author.Tests.{lt-ltb, ltb-true}
+use Rattle.machine.proofs.Laws.Tests.{both-left, both-right}
+use Rattle.schedule.specs.Number.{littleEndian, ofBytes}
+use Rattle.schedule.specs.Number.{allBelow}
+
+-- a number in so many bytes is so many bytes
+pub length-littleEndian : (w n : ℕ) → length (littleEndian w n) ≡ w
+length-littleEndian zero n = refl
+length-littleEndian (suc w) n = ap suc (length-littleEndian w (n / 256))
+
+-- .. each of them below 256
+pub allBelow-littleEndian : (w n : ℕ) → allBelow 256 (littleEndian w n) ≡ true
+allBelow-littleEndian zero n = refl
+allBelow-littleEndian (suc w) n = rw (lt-ltb (n % 256) 256 (omega arith)) (allBelow-littleEndian w (n / 256))
+
+-- a number that fits so many bytes is the number that these bytes are
+pub ofBytes-littleEndian : (w n : ℕ) → n < 256 ^ w → ofBytes (littleEndian w n) ≡ n
+ofBytes-littleEndian zero n fits = omega arith
+ofBytes-littleEndian (suc w) n fits =
+    let rest : n / 256 < 256 ^ w = div-lt-iff-lt-mul {k = 256} {x = n} (omega arith) .1 (rw pow-suc at fits) in
+    ap (λ k. n % 256 + 256 * k) (ofBytes-littleEndian w (n / 256) rest) ∙ mod-add-div n 256
+
+-- bytes are the bytes of the number that they are
+pub littleEndian-ofBytes : (l : List ℕ) → allBelow 256 l ≡ true → littleEndian (length l) (ofBytes l) ≡ l
+littleEndian-ofBytes [] below = refl
+littleEndian-ofBytes (b ∷ l) below =
+    let byte : b < 256 = ltb-true b 256 (both-left (ltb b 256) (allBelow 256 l) below) in
+    let low : (b + 256 * ofBytes l) % 256 ≡ b = omega arith in
+    let high : (b + 256 * ofBytes l) / 256 ≡ ofBytes l = omega arith in
+    rw (low, high) (ap (λ r. b ∷ r) (littleEndian-ofBytes l (both-right (ltb b 256) (allBelow 256 l) below)))
+
+-- so many bytes are a number that fits them
+pub ofBytes-fits : (l : List ℕ) → allBelow 256 l ≡ true → ofBytes l < 256 ^ length l
+ofBytes-fits [] below = omega arith
+ofBytes-fits (b ∷ l) below =
+    let byte : b < 256 = ltb-true b 256 (both-left (ltb b 256) (allBelow 256 l) below) in
+    let rest : ofBytes l < 256 ^ length l = ofBytes-fits l (both-right (ltb b 256) (allBelow 256 l) below) in
+    rw pow-suc (omega arith)
+
+-- bytes that are all below a bound: so are the first of them, and the others
+pub allBelow-take : (bound n : ℕ) (l : List ℕ) → allBelow bound l ≡ true → allBelow bound (take n l) ≡ true
+allBelow-take bound zero l below = refl
+allBelow-take bound (suc n) [] below = refl
+allBelow-take bound (suc n) (b ∷ l) below =
+    rw (both-left (ltb b bound) (allBelow bound l) below) (allBelow-take bound n l (both-right (ltb b bound) (allBelow bound l) below))
+
+pub allBelow-drop : (bound n : ℕ) (l : List ℕ) → allBelow bound l ≡ true → allBelow bound (drop n l) ≡ true
+allBelow-drop bound zero l below = below
+allBelow-drop bound (suc n) [] below = refl
+allBelow-drop bound (suc n) (b ∷ l) below = allBelow-drop bound n l (both-right (ltb b bound) (allBelow bound l) below)

@@ -1,0 +1,75 @@
+-- `check_part` meets its contract. Its loop keeps that no entry before `at` is faulty.
+use mathlib.Core.Path.{_≡_, _∙_, ap, sym}
+use Prim.Native.Nat.{_-_, _/_, _<_}
+use native.Mathlib.Omega.{arith}
+use borrow.Author.Needs.{needs}
+use lib.ListN.{length, getD}
+use Rattle.schedule.specs.Entries.{entryAt, entryOf}
+use Rattle.schedule.specs.Format.{wordsIn}
+use Rattle.schedule.proofs.Laws.Entries.{NoneBefore, entryAt-bytes, first-faulty, none-at-all, none-before-first, none-before-next}
+use Rattle.schedule.proofs.entries.check_part.Statement.{statement}
+use Rattle.schedule.proofs.entries.check_part.Tie as tie
+
+abbrev Inv-loop : tie.InvT-loop
+Inv-loop thieves kinds operands at₀ at = NoneBefore thieves kinds (wordsIn operands) at
+
+abbrev μ-loop : tie.MeasureT-loop
+μ-loop thieves kinds operands at₀ at = length kinds - at
+
+loop-holds : tie.Need-loop-holds Inv-loop μ-loop
+loop-holds c = let a = c .before .before .args in none-before-first (a .thieves) (a .kinds .now) (wordsIn (a .operands .now))
+
+-- what `entry_of` answers in a turn is the entry of the two arrays
+meant : (c : tie.After-entry-of Inv-loop μ-loop)
+    → let turn = c .before .before .before in
+    let a = turn .before .before .before .before .args in
+    entryAt (a .thieves) (a .kinds .now) (wordsIn (a .operands .now)) (turn .before .loop .at) ≡ c .entry-of .result
+meant c =
+    let turn = c .before .before .before in
+    let start = turn .before .before .before .before in
+    let a = start .args in
+    let at = turn .before .loop .at in
+    let there : at < length (a .operands .now) / 4 = omega (arith, start .pre, turn .loop-test .taken) in
+    entryAt-bytes (a .thieves) (a .kinds .now) (a .operands .now) at (turn .loop-test .taken) there
+    ∙ ap (entryOf (a .thieves) at (getD (a .kinds .now) at 0)) (sym (c .before .word-at .ensures))
+    ∙ sym (c .entry-of .ensures)
+
+returns : tie.Need-returns Inv-loop μ-loop
+returns c =
+    let answered = c .before .before .before in
+    let turn = answered .before .before .before in
+    let a = turn .before .before .before .before .args in
+    first-faulty (a .thieves) (a .kinds .now) (wordsIn (a .operands .now)) (turn .before .loop .at) _ (turn .before .loop .inv) (turn .loop-test .taken)
+    (meant answered ∙ c .before .meaning .given .1)
+
+loop-again : tie.Need-loop-again Inv-loop μ-loop
+loop-again c =
+    let answered = c .before .before in
+    let turn = answered .before .before .before in
+    let a = turn .before .before .before .before .args in
+    none-before-next (a .thieves) (a .kinds .now) (wordsIn (a .operands .now)) (turn .before .loop .at) _ (turn .before .loop .inv) (turn .loop-test .taken)
+    (meant answered ∙ c .enum-told .given .1)
+
+returns-2 : tie.Need-returns-2 Inv-loop μ-loop
+returns-2 c =
+    let a = c .before .before .before .before .args in
+    none-at-all (a .thieves) (a .kinds .now) (wordsIn (a .operands .now)) (c .before .loop .at) (c .before .loop .inv) (c .loop-test .left)
+
+pub check-part-spec : {M : Type 1} → statement M
+check-part-spec =
+    tie.close
+    (tie.spec
+    Inv-loop
+    μ-loop
+    loop-holds
+    (λ c. search needs)
+    (λ c. search needs)
+    (λ c κs. search needs)
+    (λ c κs. search needs)
+    (λ c. search needs)
+    returns
+    (λ c. search needs)
+    (λ c. search needs)
+    (λ c. search needs)
+    loop-again
+    returns-2)

@@ -1,0 +1,45 @@
+-- `operand_part` meets its contract: the file's length says that its operands reach to the end.
+use mathlib.Core.Path.{_∙_, ap, sym}
+use Prim.Native.Nat.{_+_, _≤_}
+use native.Mathlib.Omega.{arith}
+use borrow.Author.Needs.{needs}
+use lib.ListN.{drop, length}
+use Rattle.machine.proofs.Laws.Tests.{known}
+use Rattle.schedule.specs.Reader.{partOf}
+use Rattle.schedule.proofs.Laws.Reader.{accepted-holds, part-to-end}
+use Rattle.schedule.proofs.reader.operand_part.Statement.{statement}
+use Rattle.schedule.proofs.reader.operand_part.Tie as tie
+
+-- the kinds of an accepted file lie within it
+within : (c : tie.After-known-told) → 28 + c .before .reading .given .0 .1 .0 ≤ length (c .before .before .before .before .before .args .file .now)
+within c =
+    accepted-holds (c .before .before .before .before .before .args .file .now) _ _ (known (c .before .before .before .read .ensures) (c .before .reading .given .1))
+
+returns : tie.Need-returns
+returns c =
+    let asked = c .before .before .before in
+    let file = asked .before .before .args .file .now in
+    sym (ap (λ r. partOf r (λ entries. drop (28 + entries) file)) (known (asked .read .ensures) (c .before .enum-told .given .1)))
+
+returns-2 : tie.Need-returns-2
+returns-2 c =
+    let asked = c .before .before .before .before in
+    let file = asked .before .before .args .file .now in
+    let entries = c .before .before .reading .given .0 .1 .0 in
+    part-to-end (28 + entries) file
+    ∙ sym (ap (λ r. partOf r (λ entries. drop (28 + entries) file)) (known (asked .read .ensures) (c .before .before .reading .given .1)))
+
+pub operand-part-spec : {M : Type 1} → statement M
+operand-part-spec =
+    tie.close
+    (tie.spec
+    (λ c κs. search needs)
+    (λ c. search needs)
+    (λ c. search needs)
+    (λ c. search needs)
+    returns
+    (λ c. omega (arith, within c))
+    (λ c. omega (arith, within c))
+    (λ c. omega (arith, within c))
+    (λ c. omega (arith, within c))
+    returns-2)

@@ -1,0 +1,50 @@
+-- `put_file` meets its contract: the three parts are written one behind the other, and together they are the file.
+use native.Mathlib.Omega.{arith}
+use borrow.Author.Needs.{needs}
+use lib.ListN.{length}
+use Rattle.schedule.proofs.Laws.Answers.{Writable}
+use Rattle.schedule.proofs.Laws.Check.{entries-bytes}
+use Rattle.schedule.proofs.Laws.Writer.{few-entries, file-written, passed-writable}
+use Rattle.schedule.proofs.writer.put_file.Statement.{statement}
+use Rattle.schedule.proofs.writer.put_file.Tie as tie
+
+-- what the checks have found
+right : (c : tie.Start) → Writable (c .args .sizes) (c .args .kinds .now) (c .args .operands .now) (length (c .args .buffer .now))
+right c = let a = c .args in passed-writable (a .sizes) (a .kinds .now) (a .operands .now) (length (a .buffer .now)) (c .pre)
+
+put-sizes-requires : tie.Need-put-sizes-requires
+put-sizes-requires c κs =
+    let start = c .before .before .before .before in
+    (omega (arith, right start .fits), few-entries (start .args .sizes) (length (start .args .kinds .now)) (right start .ranges))
+
+put-kinds-requires : tie.Need-put-kinds-requires
+put-kinds-requires c κs =
+    let start = c .before .before .before .before .before .before .before .before in
+    omega (arith, right start .fits)
+
+put-operands-requires : tie.Need-put-operands-requires
+put-operands-requires c κs =
+    let start = c .before .before .before .before .before .before .before .before .before .before .before .before in
+    omega (arith, right start .fits, right start .parallel)
+
+returns : tie.Need-returns
+returns c =
+    let operands-put = c .before .before in
+    let kinds-put = operands-put .before .before .before .before in
+    let sizes-put = kinds-put .before .before .before .before in
+    let start = sizes-put .before .before .before .before .before in
+    let a = start .args in
+    let bytes = entries-bytes (a .sizes .thieves) (a .kinds .now) (a .operands .now) (right start .each) in
+    file-written (a .sizes) (a .kinds .now) (a .operands .now) bytes (right start .parallel) (a .buffer .now) _ _ _
+    (sizes-put .put-sizes .ensures) (kinds-put .put-kinds .ensures) (operands-put .put-operands .ensures)
+
+pub put-file-spec : {M : Type 1} → statement M
+put-file-spec =
+    tie.close
+    (tie.spec
+    put-sizes-requires
+    put-kinds-requires
+    (λ c. search needs)
+    put-operands-requires
+    (λ c. search needs)
+    returns)

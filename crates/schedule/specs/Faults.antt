@@ -1,0 +1,54 @@
+-- What each refusal says, in plain terms. Renders 1 to 4 and 8, of "The numbers", one by one and without their order. `Reader` and `Writer` say which of several faults is told; here
+-- stands that what is told is a fault, and that what has a fault is refused.
+use mathlib.Core.Path.{_≡_}
+use mathlib.Core.Bool.{Bool, true, false, cond, not, _&&_, _||_}
+use mathlib.Core.List.{List}
+use Prim.Native.Nat.{ℕ, _+_, _*_}
+use lib.Dec.{eqb, leb, ltb}
+use lib.ListN.{length, getD}
+use Rattle.schedule.specs.Types.{Accepted, Kind, Refusal, Room, Short, Size, Sizes, Who, Written}
+use Rattle.schedule.specs.declared.reader.Reading.the-variants as reading
+use Rattle.schedule.specs.declared.writer.Writing.the-variants as writing
+use Rattle.schedule.specs.Check.{sizesKept}
+use Rattle.schedule.specs.Format.{entriesIn, kindsIn, operandsIn, sizesIn}
+use Rattle.schedule.specs.Reader.{readFile}
+use Rattle.schedule.specs.Writer.{writeFile}
+
+-- any number for kind 2, a thief below the number of thieves for 5 and 6, and 0 for the others
+abbrev pub operandAllowed : ℕ → ℕ → ℕ → Bool
+operandAllowed thieves kind operand = cond (eqb kind 2) true (cond (eqb kind 5 || eqb kind 6) (ltb operand thieves) (eqb operand 0))
+
+-- Whether sizes, entries, lengths and room have the fault that a refusal tells. Which lengths are wrong, and what room is too small, is for reader and writer to say.
+abbrev pub hasFault : Sizes → ℕ → List ℕ → List ℕ → Bool → Bool → Refusal → Bool
+hasFault s entries kinds operands wrongLength noRoom (Size place) = not (getD (sizesKept s entries) place true)
+hasFault s entries kinds operands wrongLength noRoom Short = wrongLength
+hasFault s entries kinds operands wrongLength noRoom (Kind at) = ltb at entries && ltb 6 (getD kinds at 0)
+hasFault s entries kinds operands wrongLength noRoom (Who at) =
+    ltb at entries && (leb (getD kinds at 0) 6 && not (operandAllowed (s .thieves) (getD kinds at 0) (getD operands at 0)))
+hasFault s entries kinds operands wrongLength noRoom Room = noRoom
+
+-- a file: SHORT is under 28 bytes, or not 28 + 5 × entries; no file is refused for want of room
+abbrev pub fileHas : List ℕ → Refusal → Bool
+fileHas file =
+    hasFault (sizesIn file) (entriesIn file) (kindsIn (entriesIn file) file) (operandsIn (entriesIn file) file)
+    (ltb (length file) 28 || not (eqb (length file) (28 + 5 * entriesIn file)))
+    false
+
+-- what a writer is handed: SHORT is arrays of different lengths, ROOM a buffer that the file does not fit in
+abbrev pub writingHas : Sizes → List ℕ → List ℕ → ℕ → Refusal → Bool
+writingHas s kinds operands room =
+    hasFault s (length kinds) kinds operands (not (eqb (length kinds) (length operands))) (ltb room (28 + 5 * length kinds))
+
+-- the reader refuses for a fault that the file has, and accepts no file that has one
+abbrev pub ReaderRefusesFaults : Type 0
+ReaderRefusesFaults =
+    (file : List ℕ) (r : Refusal)
+    → (readFile file ≡ reading.Refused r → fileHas file r ≡ true)
+    × ((s : Sizes) (entries : ℕ) → readFile file ≡ Accepted s entries → fileHas file r ≡ false)
+
+-- and so does the writer
+abbrev pub WriterRefusesFaults : Type 0
+WriterRefusesFaults =
+    (s : Sizes) (kinds operands : List ℕ) (room : ℕ) (r : Refusal)
+    → (writeFile s kinds operands room ≡ writing.Refused r → writingHas s kinds operands room r ≡ true)
+    × ((n : ℕ) → writeFile s kinds operands room ≡ Written n → writingHas s kinds operands room r ≡ false)

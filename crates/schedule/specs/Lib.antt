@@ -1,0 +1,24 @@
+-- What the promises about schedule files say. Names in quotation marks are places of the scope paper, 01. The files stand in reading order; `readFile` in `Reader` and
+-- `writeFile` in `Writer` are what `read` and `write` answer, `fileOf` in `Format` is the file that both go by.
+--
+-- numbers in bytes                      Number
+-- refusals, their numbers and places    Refusal
+-- checks in their order; SIZE           Check
+-- the layout of a file                  Format
+-- kinds, operands; KIND and WHO         Entries
+-- reading: the order of its checks      Reader
+-- writing: the order of its checks      Writer
+-- what each refusal says, in plain terms Faults
+-- reading what was written, and back    RoundTrip
+-- files at every edge, as a table       Edges
+pub mod Types
+pub mod Number
+pub mod Refusal
+pub mod Check
+pub mod Format
+pub mod Entries
+pub mod Reader
+pub mod Writer
+pub mod Faults
+pub mod RoundTrip
+pub mod Edges

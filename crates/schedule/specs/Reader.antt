@@ -1,0 +1,42 @@
+-- Reading a file. Renders "The numbers", their order ("2 for under 28 bytes; 1, lowest place first; 2 for the length; 3 and 4 at the first faulty entry"), and, of "Parts", the
+-- sentence on the operand array.
+use mathlib.Core.Bool.{not}
+use mathlib.Core.List.{List, [], _∷_}
+use Prim.Native.Nat.{ℕ, _+_, _*_}
+use lib.Dec.{eqb, ltb}
+use lib.ListN.{length, drop, take}
+use Rattle.schedule.specs.Types.{Accepted, Check, Failed, Passed, Reading, Short}
+use Rattle.schedule.specs.declared.reader.Reading.the-variants.{Refused}
+use Rattle.schedule.specs.Check.{checkRanges, failIf, first}
+use Rattle.schedule.specs.Entries.{checkEntries}
+use Rattle.schedule.specs.Format.{entriesIn, kindsIn, operandsIn, sizesIn}
+
+-- the checks of a file, in their order
+abbrev pub readingChecks : List ℕ → List Check
+readingChecks file =
+    failIf (ltb (length file) 28) Short
+    ∷ checkRanges (sizesIn file) (entriesIn file)
+    ∷ failIf (not (eqb (length file) (28 + 5 * entriesIn file))) Short
+    ∷ checkEntries (sizesIn file .thieves) (kindsIn (entriesIn file) file) (operandsIn (entriesIn file) file)
+    ∷ []
+
+abbrev pub answer : List ℕ → Check → Reading
+answer file Passed = Accepted (sizesIn file) (entriesIn file)
+answer file (Failed r) = Refused r
+
+-- what reading a file comes to: its sizes and the number of its entries, or the refusal
+abbrev pub readFile : List ℕ → Reading
+readFile file = answer file (first (readingChecks file))
+
+-- a part of a file that is read; nothing of one that is refused
+abbrev pub partOf : Reading → (ℕ → List ℕ) → List ℕ
+partOf (Accepted s entries) part = part entries
+partOf (Refused r) part = []
+
+-- the kind bytes: the entries' number of bytes from 28 on
+abbrev pub kindPart : List ℕ → List ℕ
+kindPart file = partOf (readFile file) (λ entries. take entries (drop 28 file))
+
+-- the operands' bytes: from 28 + entries to the end
+abbrev pub operandPart : List ℕ → List ℕ
+operandPart file = partOf (readFile file) (λ entries. drop (28 + entries) file)

@@ -1,0 +1,28 @@
+ghost use mathlib.Core.Path.{_≡_};
+ghost use Rattle.schedule.specs.Check.{checkRanges};
+use crate::refusal::Refusal;
+use machine::SizeCheck;
+use machine::Sizes;
+
+// What a check comes to.
+pub(crate) enum Check {
+    Passed,
+    Failed(Refusal),
+}
+
+// Whether the seven sizes are in range. The lower library knows the first six; the seventh is the number of entries.
+pub(crate) fn check_ranges(sizes: Sizes, entries: usize) -> Check
+    ensures { λ r. ⌜ r ≡ checkRanges sizes entries ⌝ }
+{
+    let found = sizes.check();
+    match found {
+        SizeCheck::OutOfRange(place) => Check::Failed(Refusal::Size(place as usize)),
+        SizeCheck::AllInRange => {
+            if entries <= 4096 {
+                Check::Passed
+            } else {
+                Check::Failed(Refusal::Size(6))
+            }
+        }
+    }
+}

@@ -1,0 +1,80 @@
+ghost use mathlib.Core.Path.{_≡_};
+ghost use Prim.Native.Nat.{_≤_};
+ghost use lib.ListN.{length};
+ghost use Rattle.schedule.specs.Format.{sizesIn};
+ghost use Rattle.schedule.specs.Reader.{kindPart, operandPart, readFile};
+use crate::check::Check;
+use crate::check::check_ranges;
+use crate::entries::check_part;
+use crate::number::word_at;
+use crate::refusal::Refusal;
+use machine::Sizes;
+
+// What reading a file comes to.
+pub enum Reading {
+    // The file is a schedule: its first six sizes, and how many entries it has.
+    Accepted(Sizes, usize),
+    // It is none.
+    Refused(Refusal),
+}
+
+// The first six sizes, each decoded once.
+fn sizes_in(file: &[u8]) -> Sizes
+    requires { ⌜ 28 ≤ length (now file) ⌝ }
+    ensures { λ r. ⌜ r ≡ sizesIn (now (file .entry)) ⌝ }
+{
+    Sizes {
+        slots: word_at(file, 0),
+        buffer: word_at(file, 4),
+        spacing: word_at(file, 8),
+        margin: word_at(file, 12),
+        thieves: word_at(file, 16),
+        start: word_at(file, 20),
+    }
+}
+
+// Reads a schedule file. The sizes are looked at before the length as a whole, since they say how long the file should be.
+pub fn read(file: &[u8]) -> Reading
+    ensures { λ r. ⌜ r ≡ readFile (now (file .entry)) ⌝ }
+{
+    if file.len() < 28 {
+        return Reading::Refused(Refusal::Short);
+    }
+    let sizes = sizes_in(file);
+    let entries = word_at(file, 24) as usize;
+    let ranges = check_ranges(sizes, entries);
+    if let Check::Failed(refusal) = ranges {
+        return Reading::Refused(refusal);
+    }
+    if file.len() != 28 + 5 * entries {
+        return Reading::Refused(Refusal::Short);
+    }
+    let operands = 28 + entries;
+    let steps = check_part(sizes.thieves, &file[28..operands], &file[operands..]);
+    match steps {
+        Check::Passed => Reading::Accepted(sizes, entries),
+        Check::Failed(refusal) => Reading::Refused(refusal),
+    }
+}
+
+// The part of a file that its kinds are, one byte each; an empty part, if the file is refused.
+pub fn kind_part(file: &[u8]) -> &[u8]
+    ensures { λ r. ⌜ now r ≡ kindPart (now (file .entry)) ⌝ }
+{
+    let reading = read(file);
+    let Reading::Accepted(_, entries) = reading else {
+        return &file[..0];
+    };
+    &file[28..28 + entries]
+}
+
+// The part of a file that its operands are, four bytes each, to the end; an empty part, if the file is refused.
+pub fn operand_part(file: &[u8]) -> &[u8]
+    ensures { λ r. ⌜ now r ≡ operandPart (now (file .entry)) ⌝ }
+{
+    let reading = read(file);
+    let Reading::Accepted(_, entries) = reading else {
+        return &file[..0];
+    };
+    &file[28 + entries..]
+}
