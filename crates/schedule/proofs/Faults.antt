@@ -16,9 +16,11 @@ use Rattle.schedule.specs.Faults.{ReaderRefusesFaults, WriterRefusesFaul
 use Rattle.schedule.specs.Format.{entriesIn, kindsIn, operandsIn, sizesIn}
 use Rattle.schedule.specs.Reader as reader
 use Rattle.schedule.specs.Writer as writer
-use Rattle.schedule.proofs.Laws.Answers.{accepted-readable, refused-reading, refused-writing, written-writable}
-use Rattle.schedule.proofs.Laws.Check.{entries-passed, entry-passed, entryAt-check, failIf-failed, not-both}
+use Rattle.schedule.proofs.Laws.Reader.{accepted-readable, refused-reading}
+use Rattle.schedule.proofs.Laws.Writer.{refused-writing, written-writable}
+use Rattle.schedule.proofs.Laws.Check.{failIf-failed, not-both}
 use Rattle.schedule.proofs.Laws.Check.{ranges-failed, ranges-passed, upTo-failed}
+use Rattle.schedule.proofs.Laws.Entries.{entries-passed, entry-passed, entryAt-check}
 use Rattle.schedule.proofs.Laws.Format.{length-kindsIn, length-operandsIn}
 
 -- ── What reader and writer share ────────────────────────────────────────────────────────────────────────────────────────────

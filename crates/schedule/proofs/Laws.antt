@@ -4,6 +4,5 @@ pub mod Overwritten
 pub mod Words
 pub mod Check
 pub mod Entries
-pub mod Answers
 pub mod Reader
 pub mod Writer

@@ -7,10 +7,8 @@ use native.Mathlib.Nat.{zero-add}
 use native.Mathlib.Omega.{arith}
 use lib.ListN.{drop, getD, length, replicate, take, take-append-drop}
 use lib.Seq.{drop-at, drop-drop, take-at}
-use lib.Dec.{leb}
-use borrow.Author.Tests.{leb-true, lt-ltb}
+use borrow.Author.Tests.{lt-ltb}
 use Rattle.machine.proofs.Laws.Sizes.{sizes-bounds}
-use Rattle.machine.proofs.Laws.Tests.{both-right}
 use Rattle.schedule.specs.Types.{Accepted, Sizes, Written}
 use Rattle.schedule.specs.Number.{allBelow}
 use Rattle.schedule.specs.Check.{checkRanges}
@@ -19,8 +17,10 @@ use Rattle.schedule.specs.Format.{decode, encode, entriesIn, fileOf, kin
 use Rattle.schedule.specs.Reader.{partOf}
 use Rattle.schedule.specs.RoundTrip.{Parts, PartsOfAccepted, ReadBack, ReadThenWritten, WrittenBack, WrittenThenRead}
 use Rattle.schedule.specs.Writer.{answer, bufferAfter, left}
-use Rattle.schedule.proofs.Laws.Answers.{Readable, Writable, accepted-readable, readable-accepted, writable-passes, written-writable}
-use Rattle.schedule.proofs.Laws.Check.{check-allowed, entries-bytes, entries-passed, ranges-passed, ranges-sizes}
+use Rattle.schedule.proofs.Laws.Reader.{Readable, accepted-readable, readable-accepted}
+use Rattle.schedule.proofs.Laws.Writer.{Writable, few-entries, writable-passes, written-writable}
+use Rattle.schedule.proofs.Laws.Check.{ranges-sizes}
+use Rattle.schedule.proofs.Laws.Entries.{check-allowed, entries-bytes, entries-passed}
 use Rattle.schedule.proofs.Laws.Format.{decode-encode, encode-decode, fitting, fitting-append, fitting-replicate}
 use Rattle.schedule.proofs.Laws.Format.{kindsIn-part, length-fileOf, length-kindsIn, length-operandsIn, operandsIn-part, total-layout}
 
@@ -91,8 +91,7 @@ module _ (s : Sizes) (kinds operands : List ℕ) (words : allBelow 4294967296 op
   sizes-fit : fitting (layout 0) (sizeNumbers s (length kinds)) ≡ true
   sizes-fit =
       let b = sizes-bounds s (ranges-sizes s (length kinds) (p .ranges)) in
-      let kept = both-right (leb 0 (length kinds)) (leb (length kinds) 4096) (ranges-passed s (length kinds) (p .ranges) 6) in
-      let few = leb-true (length kinds) 4096 kept in
+      let few = few-entries s (length kinds) (p .ranges) in
       rw (
         lt-ltb (s .slots) 4294967296 (omega arith),
         lt-ltb (s .buffer) 4294967296 (omega arith),

@@ -42,7 +42,7 @@ pub record SizeBounds (s : Sizes) : Type 0 where
   pub start-most : s .start ≤ 2147483647
 
 -- where no fault is found, every test passed
-kept-at : (place : ℕ) (l : List Bool) (i : ℕ) → noFault (firstFault place l) ≡ true → getD l i true ≡ true
+pub kept-at : (place : ℕ) (l : List Bool) (i : ℕ) → noFault (firstFault place l) ≡ true → getD l i true ≡ true
 kept-at place [] i h = refl
 kept-at place (true ∷ l) zero h = refl
 kept-at place (true ∷ l) (suc i) h = kept-at (place + 1) l i h

@@ -1,4 +1,4 @@
--- Laws of checks: of several in their order, of the sizes, and of the entries.
+-- Laws of checks: of several in their order, of one at each number below a bound, and of the seven sizes.
 use mathlib.Core.Path.{_≡_, refl, ap, sym, _∙_}
 use mathlib.Core.Bool.{Bool, true, false, cond}
 use mathlib.Core.List.{List, [], _∷_, _++_, map, map-append}
@@ -6,22 +6,14 @@ use Prim.Native.Nat.{ℕ, zero, suc, _+_, _<_, suc-le-suc}
 use native.Mathlib.Nat.{add-zero, le-dest, le-of-suc-le-suc, not-suc-le-zero, zero-add, zero-lt-suc}
 use native.Mathlib.Numerals.{add-one}
 use native.Mathlib.Omega.{arith}
-use lib.Dec.{eqb, ltb}
-use lib.ListN.{getD, length, length-map, List·getD-eq-default}
-use borrow.Author.Tests.{lt-ltb, ltb-false, ltb-true}
-use Rattle.machine.proofs.Laws.Lists.{all-each}
-use Rattle.machine.proofs.Laws.Sums.{length-upTo, upTo-suc}
-use Rattle.machine.proofs.Laws.Tests.{cond-map}
+use lib.ListN.{getD, length, length-map}
 use Rattle.machine.specs.Lists.{upFrom, upTo}
 use Rattle.machine.specs.Sizes.{checkSizes, firstFault, noFault, rangesKept, sizesInRange, within}
-use Rattle.schedule.specs.Types.{BeginSteal, BeginTake, ClientStore, Drain, Entry, ThiefStep, WorkerStep}
-use Rattle.schedule.specs.Types.{AllInRange, OutOfRange, SizeCheck, Sizes}
-use Rattle.schedule.specs.Types.{Allowed, Check, Failed, Kind, Meaning, Passed, Refusal, Short, Size, Who}
-use Rattle.schedule.specs.declared.entries.Meaning.the-variants.{Refused}
+use Rattle.machine.proofs.Laws.Sizes.{kept-at}
+use Rattle.machine.proofs.Laws.Sums.{length-upTo, upTo-suc}
+use Rattle.machine.proofs.Laws.Tests.{cond-map}
+use Rattle.schedule.specs.Types.{AllInRange, Check, Failed, OutOfRange, Passed, Refusal, Size, SizeCheck, Sizes}
 use Rattle.schedule.specs.Check.{checkRanges, failIf, first, sizeRefusal, sizesKept}
-use Rattle.schedule.specs.Entries.{allowedIf, checkEntries, checkOf, entryAt, entryOf}
-use Rattle.schedule.specs.Faults.{operandAllowed}
-use Rattle.schedule.specs.Number.{allBelow}
 
 -- ── Checks in their order ───────────────────────────────────────────────────────────────────────────────────────────────────
 
@@ -38,18 +30,13 @@ pub failIf-failed : (fault : Bool) (q : Refusal) {r : Refusal} → failIf fault 
 failIf-failed true q e = (refl, cc)
 failIf-failed false q e = absurd (not-both (sym e))
 
--- where none failed, each passed; where each passed, none failed; and what is told, one of them failed with
+-- where none failed, each passed; and what is told, one of them failed with
 
 pub first-passed : (l : List Check) → first l ≡ Passed → (i : ℕ) → getD l i Passed ≡ Passed
 first-passed [] e i = refl
 first-passed (Passed ∷ l) e zero = refl
 first-passed (Passed ∷ l) e (suc i) = first-passed l e i
 first-passed (Failed r ∷ l) e i = absurd (not-both e)
-
-pub first-each : (l : List Check) → ((i : ℕ) → i < length l → getD l i Passed ≡ Passed) → first l ≡ Passed
-first-each [] each = refl
-first-each (Passed ∷ l) each = first-each l (λ i h. each (suc i) (suc-le-suc h))
-first-each (Failed r ∷ l) each = each zero (zero-lt-suc (length l))
 
 pub first-failed : (l : List Check) (r : Refusal) → first l ≡ Failed r → (i : ℕ) × ((i < length l) × (getD l i Passed ≡ Failed r))
 first-failed [] r e = absurd (not-both (sym e))
@@ -96,14 +83,10 @@ module _ (f : ℕ → Check) where
   length-checks : (n : ℕ) → length (map f (upTo n)) ≡ n
   length-checks n = length-map (upTo n) f ∙ length-upTo n
 
-  -- where none failed, each passed; where each passed, none failed; and what is told, one of them failed with
+  -- where none failed, each passed; and what is told, one of them failed with
 
   pub upTo-passed : (n : ℕ) → first (map f (upTo n)) ≡ Passed → (i : ℕ) → i < n → f i ≡ Passed
   upTo-passed n e i h = sym (at-upTo n i h) ∙ first-passed (map f (upTo n)) e i
-
-  pub upTo-each : (n : ℕ) → ((i : ℕ) → i < n → f i ≡ Passed) → first (map f (upTo n)) ≡ Passed
-  upTo-each n each =
-      first-each (map f (upTo n)) (λ i h. let below : i < n = omega (arith, length-checks n) in at-upTo n i below ∙ each i below)
 
   pub upTo-failed : (n : ℕ) (r : Refusal) → first (map f (upTo n)) ≡ Failed r → (i : ℕ) × ((i < n) × (f i ≡ Failed r))
   upTo-failed n r e =
@@ -158,13 +141,7 @@ module _ (s : Sizes) (entries : ℕ) where
       ap sizeRefusal (fault-append 0 (rangesKept s) (within 0 4096 entries ∷ []) e)
       ∙ sym (cond-map sizeRefusal (within 0 4096 entries) refl refl)
 
--- where no fault is told, each test passed; the one that is told failed
-kept-all : (place : ℕ) (l : List Bool) → firstFault place l ≡ AllInRange → (i : ℕ) → getD l i true ≡ true
-kept-all place [] e i = refl
-kept-all place (true ∷ l) e zero = refl
-kept-all place (true ∷ l) e (suc i) = kept-all (place + 1) l e i
-kept-all place (false ∷ l) e i = absurd (found-none e)
-
+-- the test that is told failed
 fault-told : (place at : ℕ) (l : List Bool) → firstFault place l ≡ OutOfRange at → (i : ℕ) × ((place + i ≡ at) × (getD l i true ≡ false))
 fault-told place at [] e = absurd (found-none (sym e))
 fault-told place at (true ∷ l) e = let found = fault-told (place + 1) at l e in (suc (found .0), (omega (arith, found .1 .0), found .1 .1))
@@ -178,7 +155,7 @@ module _ (s : Sizes) (entries : ℕ) where
     where
       go : (c : SizeCheck) → firstFault 0 (sizesKept s entries) ≡ c → sizeRefusal c ≡ Passed
           → (place : ℕ) → getD (sizesKept s entries) place true ≡ true
-      go AllInRange found passed = kept-all 0 (sizesKept s entries) found
+      go AllInRange found passed = λ place. kept-at 0 (sizesKept s entries) place (ap noFault found)
       go (OutOfRange at) found passed = absurd (not-both passed)
 
   pub ranges-failed : (r : Refusal) → checkRanges s entries ≡ Failed r
@@ -201,74 +178,3 @@ module _ (s : Sizes) (entries : ℕ) where
       go : (c : SizeCheck) → checkSizes s ≡ c → noFault c ≡ true
       go AllInRange found = refl
       go (OutOfRange at) found = absurd (not-both (sym (ranges-found s entries at found) ∙ e))
-
--- ── Entries ─────────────────────────────────────────────────────────────────────────────────────────────────────────────────
-
--- the check of an allowed or refused operand
-allowed-check : (allowed : Bool) (place : ℕ) (entry : Entry) → checkOf (allowedIf allowed place entry) ≡ cond allowed Passed (Failed (Who place))
-allowed-check allowed place entry = sym (cond-map checkOf allowed refl refl)
-
--- the check of an entry: a kind past 6 is KIND, and an operand that is not allowed WHO
-pub entry-check : (thieves place kind operand : ℕ)
-    → checkOf (entryOf thieves place kind operand)
-    ≡ cond (ltb 6 kind) (Failed (Kind place)) (cond (operandAllowed thieves kind operand) Passed (Failed (Who place)))
-entry-check thieves place zero operand = allowed-check (eqb operand 0) place Drain
-entry-check thieves place (suc zero) operand = allowed-check (eqb operand 0) place ClientStore
-entry-check thieves place (suc (suc zero)) operand = refl
-entry-check thieves place (suc (suc (suc zero))) operand = allowed-check (eqb operand 0) place BeginTake
-entry-check thieves place (suc (suc (suc (suc zero)))) operand = allowed-check (eqb operand 0) place WorkerStep
-entry-check thieves place (suc (suc (suc (suc (suc zero))))) operand = allowed-check (ltb operand thieves) place (BeginSteal operand)
-entry-check thieves place (suc (suc (suc (suc (suc (suc zero)))))) operand = allowed-check (ltb operand thieves) place (ThiefStep operand)
-entry-check thieves place (suc (suc (suc (suc (suc (suc (suc kind))))))) operand =
-    rw (lt-ltb 6 (suc (suc (suc (suc (suc (suc (suc kind))))))) (omega arith))
-
--- an entry whose check passed is allowed
-pub check-allowed : (m : Meaning) → checkOf m ≡ Passed → (entry : Entry) × (m ≡ Allowed entry)
-check-allowed (Allowed entry) e = (entry, refl)
-check-allowed (Refused r) e = absurd (not-both e)
-
-module _ (thieves : ℕ) (kinds operands : List ℕ) where
-  -- the entry at a place that both arrays have
-  pub entryAt-both : (at : ℕ) → at < length kinds → at < length operands
-      → entryAt thieves kinds operands at ≡ entryOf thieves at (getD kinds at 0) (getD operands at 0)
-  entryAt-both at k o = rw (lt-ltb at (length kinds) k, lt-ltb at (length operands) o)
-
-  -- the check of the entry at a place of two arrays: SHORT, where the second ends before it
-  pub entryAt-check : (at : ℕ) → at < length kinds
-      → checkOf (entryAt thieves kinds operands at)
-      ≡ cond (ltb at (length operands))
-      (cond (ltb 6 (getD kinds at 0)) (Failed (Kind at))
-      (cond (operandAllowed thieves (getD kinds at 0) (getD operands at 0)) Passed (Failed (Who at))))
-      (Failed Short)
-  entryAt-check at h =
-      rw (lt-ltb at (length kinds) h)
-      (sym (cond-map checkOf (ltb at (length operands)) (sym (entry-check thieves at (getD kinds at 0) (getD operands at 0))) refl))
-
-  -- where it passed, the kind is none past 6, and the operand is allowed
-  pub entry-passed : (at : ℕ) → at < length kinds → checkOf (entryAt thieves kinds operands at) ≡ Passed
-      → (ltb 6 (getD kinds at 0) ≡ false) × (operandAllowed thieves (getD kinds at 0) (getD operands at 0) ≡ true)
-  entry-passed at h e =
-      go (ltb at (length operands)) (ltb 6 (getD kinds at 0)) (operandAllowed thieves (getD kinds at 0) (getD operands at 0))
-      (sym (entryAt-check at h) ∙ e)
-    where
-      go : (there past allowed : Bool) → cond there (cond past (Failed (Kind at)) (cond allowed Passed (Failed (Who at)))) (Failed Short) ≡ Passed
-          → (past ≡ false) × (allowed ≡ true)
-      go true true allowed p = absurd (not-both p)
-      go true false true p = (refl, refl)
-      go true false false p = absurd (not-both p)
-      go false past allowed p = absurd (not-both p)
-
-  -- where all entries passed, each did, and its kind is a byte
-
-  pub entries-passed : checkEntries thieves kinds operands ≡ Passed
-      → (at : ℕ) → at < length kinds → checkOf (entryAt thieves kinds operands at) ≡ Passed
-  entries-passed e = upTo-passed (λ at. checkOf (entryAt thieves kinds operands at)) (length kinds) e
-
-  pub entries-bytes : checkEntries thieves kinds operands ≡ Passed → allBelow 256 kinds ≡ true
-  entries-bytes e = all-each (λ n. ltb n 256) kinds 0 (λ i. byte i (ltb i (length kinds)) refl)
-    where
-      byte : (i : ℕ) (inside : Bool) → ltb i (length kinds) ≡ inside → ltb (getD kinds i 0) 256 ≡ true
-      byte i true p =
-          let below = ltb-true i (length kinds) p in
-          lt-ltb (getD kinds i 0) 256 (omega (arith, ltb-false 6 (getD kinds i 0) (entry-passed i below (entries-passed e i below) .0)))
-      byte i false p = rw (List·getD-eq-default kinds 0 (ltb-false i (length kinds) p))

@@ -1,19 +1,98 @@
--- Laws of the entry at a place of two arrays, and of a search for the first faulty one.
-use mathlib.Core.Path.{_≡_, ap, refl, subst, sym, _∙_}
+-- Laws of entries: what the check of one says, where it lies in two arrays, and a search for the first faulty one.
+use mathlib.Core.Path.{_≡_, refl, ap, subst, sym, _∙_}
+use mathlib.Core.Bool.{Bool, true, false, cond}
 use mathlib.Core.List.{List, map}
-use Prim.Native.Nat.{ℕ, _+_, _*_, _/_, _≤_, _<_, zero-le}
+use Prim.Native.Nat.{ℕ, zero, suc, _+_, _*_, _/_, _≤_, _<_, zero-le}
 use native.Mathlib.Omega.{arith}
-use lib.ListN.{length, drop, getD, take}
-use borrow.Author.Tests.{le-ltb, lt-ltb}
+use lib.Dec.{eqb, ltb}
+use lib.ListN.{length, drop, getD, take, List·getD-eq-default}
+use borrow.Author.Tests.{le-ltb, lt-ltb, ltb-false, ltb-true}
 use Rattle.machine.specs.Lists.{upTo}
-use Rattle.schedule.specs.Types.{Allowed, Check, Entry, Failed, Passed, Refusal, Short}
+use Rattle.machine.proofs.Laws.Lists.{all-each}
+use Rattle.machine.proofs.Laws.Tests.{cond-map}
+use Rattle.schedule.specs.Types.{BeginSteal, BeginTake, ClientStore, Drain, Entry, ThiefStep, WorkerStep}
+use Rattle.schedule.specs.Types.{Allowed, Check, Failed, Kind, Meaning, Passed, Refusal, Short, Who}
 use Rattle.schedule.specs.declared.entries.Meaning.the-variants.{Refused}
-use Rattle.schedule.specs.Number.{ofBytes}
+use Rattle.schedule.specs.Number.{allBelow, ofBytes}
 use Rattle.schedule.specs.Check.{first}
 use Rattle.schedule.specs.Format.{wordsIn}
-use Rattle.schedule.specs.Entries.{checkEntries, checkOf, entryAt, entryOf}
-use Rattle.schedule.proofs.Laws.Check.{entryAt-both, first-more, first-stops}
+use Rattle.schedule.specs.Entries.{allowedIf, checkEntries, checkOf, entryAt, entryOf}
+use Rattle.schedule.specs.Faults.{operandAllowed}
+use Rattle.schedule.proofs.Laws.Check.{first-more, first-stops, not-both, upTo-passed}
 use Rattle.schedule.proofs.Laws.Format.{getD-words, length-wordsIn}
+
+-- ── What the check of an entry says ─────────────────────────────────────────────────────────────────────────────────────────
+
+-- the check of an allowed or refused operand
+allowed-check : (allowed : Bool) (place : ℕ) (entry : Entry) → checkOf (allowedIf allowed place entry) ≡ cond allowed Passed (Failed (Who place))
+allowed-check allowed place entry = sym (cond-map checkOf allowed refl refl)
+
+-- the check of an entry: a kind past 6 is KIND, and an operand that is not allowed WHO
+pub entry-check : (thieves place kind operand : ℕ)
+    → checkOf (entryOf thieves place kind operand)
+    ≡ cond (ltb 6 kind) (Failed (Kind place)) (cond (operandAllowed thieves kind operand) Passed (Failed (Who place)))
+entry-check thieves place zero operand = allowed-check (eqb operand 0) place Drain
+entry-check thieves place (suc zero) operand = allowed-check (eqb operand 0) place ClientStore
+entry-check thieves place (suc (suc zero)) operand = refl
+entry-check thieves place (suc (suc (suc zero))) operand = allowed-check (eqb operand 0) place BeginTake
+entry-check thieves place (suc (suc (suc (suc zero)))) operand = allowed-check (eqb operand 0) place WorkerStep
+entry-check thieves place (suc (suc (suc (suc (suc zero))))) operand = allowed-check (ltb operand thieves) place (BeginSteal operand)
+entry-check thieves place (suc (suc (suc (suc (suc (suc zero)))))) operand = allowed-check (ltb operand thieves) place (ThiefStep operand)
+entry-check thieves place (suc (suc (suc (suc (suc (suc (suc kind))))))) operand =
+    rw (lt-ltb 6 (suc (suc (suc (suc (suc (suc (suc kind))))))) (omega arith))
+
+-- an entry whose check passed is allowed
+pub check-allowed : (m : Meaning) → checkOf m ≡ Passed → (entry : Entry) × (m ≡ Allowed entry)
+check-allowed (Allowed entry) e = (entry, refl)
+check-allowed (Refused r) e = absurd (not-both e)
+
+module _ (thieves : ℕ) (kinds operands : List ℕ) where
+  -- the entry at a place that both arrays have
+  pub entryAt-both : (at : ℕ) → at < length kinds → at < length operands
+      → entryAt thieves kinds operands at ≡ entryOf thieves at (getD kinds at 0) (getD operands at 0)
+  entryAt-both at k o = rw (lt-ltb at (length kinds) k, lt-ltb at (length operands) o)
+
+  -- the check of the entry at a place of two arrays: SHORT, where the second ends before it
+  pub entryAt-check : (at : ℕ) → at < length kinds
+      → checkOf (entryAt thieves kinds operands at)
+      ≡ cond (ltb at (length operands))
+      (cond (ltb 6 (getD kinds at 0)) (Failed (Kind at))
+      (cond (operandAllowed thieves (getD kinds at 0) (getD operands at 0)) Passed (Failed (Who at))))
+      (Failed Short)
+  entryAt-check at h =
+      rw (lt-ltb at (length kinds) h)
+      (sym (cond-map checkOf (ltb at (length operands)) (sym (entry-check thieves at (getD kinds at 0) (getD operands at 0))) refl))
+
+  -- where it passed, the kind is none past 6, and the operand is allowed
+  pub entry-passed : (at : ℕ) → at < length kinds → checkOf (entryAt thieves kinds operands at) ≡ Passed
+      → (ltb 6 (getD kinds at 0) ≡ false) × (operandAllowed thieves (getD kinds at 0) (getD operands at 0) ≡ true)
+  entry-passed at h e =
+      go (ltb at (length operands)) (ltb 6 (getD kinds at 0)) (operandAllowed thieves (getD kinds at 0) (getD operands at 0))
+      (sym (entryAt-check at h) ∙ e)
+    where
+      go : (there past allowed : Bool) → cond there (cond past (Failed (Kind at)) (cond allowed Passed (Failed (Who at)))) (Failed Short) ≡ Passed
+          → (past ≡ false) × (allowed ≡ true)
+      go true true allowed p = absurd (not-both p)
+      go true false true p = (refl, refl)
+      go true false false p = absurd (not-both p)
+      go false past allowed p = absurd (not-both p)
+
+  -- where all entries passed, each did, and its kind is a byte
+
+  pub entries-passed : checkEntries thieves kinds operands ≡ Passed
+      → (at : ℕ) → at < length kinds → checkOf (entryAt thieves kinds operands at) ≡ Passed
+  entries-passed e = upTo-passed (λ at. checkOf (entryAt thieves kinds operands at)) (length kinds) e
+
+  pub entries-bytes : checkEntries thieves kinds operands ≡ Passed → allBelow 256 kinds ≡ true
+  entries-bytes e = all-each (λ n. ltb n 256) kinds 0 (λ i. byte i (ltb i (length kinds)) refl)
+    where
+      byte : (i : ℕ) (inside : Bool) → ltb i (length kinds) ≡ inside → ltb (getD kinds i 0) 256 ≡ true
+      byte i true p =
+          let below = ltb-true i (length kinds) p in
+          lt-ltb (getD kinds i 0) 256 (omega (arith, ltb-false 6 (getD kinds i 0) (entry-passed i below (entries-passed e i below) .0)))
+      byte i false p = rw (List·getD-eq-default kinds 0 (ltb-false i (length kinds) p))
+
+-- ── One entry of two arrays ─────────────────────────────────────────────────────────────────────────────────────────────────
 
 module _ (thieves : ℕ) (kinds operands : List ℕ) where
   -- an entry that one of the arrays does not have

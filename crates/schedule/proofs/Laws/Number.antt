@@ -1,4 +1,4 @@
--- Laws of numbers in bytes: as many bytes as asked for, each below 256; and there and back again, both ways.
+-- Laws of numbers in bytes: as many bytes as asked for, and there and back again, both ways.
 use mathlib.Core.Path.{_≡_, refl, ap, _∙_}
 use mathlib.Core.Bool.{true}
 use mathlib.Core.List.{List, [], _∷_}
@@ -7,20 +7,14 @@ use native.Mathlib.Nat.{div-lt-iff-lt-mul, mod-add-div, pow-suc}
 use native.Mathlib.Omega.{arith}
 use lib.Dec.{ltb}
 use lib.ListN.{drop, length, take}
-use borrow.Author.Tests.{lt-ltb, ltb-true}
+use borrow.Author.Tests.{ltb-true}
 use Rattle.machine.proofs.Laws.Tests.{both-left, both-right}
-use Rattle.schedule.specs.Number.{littleEndian, ofBytes}
-use Rattle.schedule.specs.Number.{allBelow}
+use Rattle.schedule.specs.Number.{allBelow, littleEndian, ofBytes}
 
 -- a number in so many bytes is so many bytes
 pub length-littleEndian : (w n : ℕ) → length (littleEndian w n) ≡ w
 length-littleEndian zero n = refl
 length-littleEndian (suc w) n = ap suc (length-littleEndian w (n / 256))
-
--- .. each of them below 256
-pub allBelow-littleEndian : (w n : ℕ) → allBelow 256 (littleEndian w n) ≡ true
-allBelow-littleEndian zero n = refl
-allBelow-littleEndian (suc w) n = rw (lt-ltb (n % 256) 256 (omega arith)) (allBelow-littleEndian w (n / 256))
 
 -- a number that fits so many bytes is the number that these bytes are
 pub ofBytes-littleEndian : (w n : ℕ) → n < 256 ^ w → ofBytes (littleEndian w n) ≡ n
@@ -37,14 +31,6 @@ littleEndian-ofBytes (b ∷ l) below =
     let low : (b + 256 * ofBytes l) % 256 ≡ b = omega arith in
     let high : (b + 256 * ofBytes l) / 256 ≡ ofBytes l = omega arith in
     rw (low, high) (ap (λ r. b ∷ r) (littleEndian-ofBytes l (both-right (ltb b 256) (allBelow 256 l) below)))
-
--- so many bytes are a number that fits them
-pub ofBytes-fits : (l : List ℕ) → allBelow 256 l ≡ true → ofBytes l < 256 ^ length l
-ofBytes-fits [] below = omega arith
-ofBytes-fits (b ∷ l) below =
-    let byte : b < 256 = ltb-true b 256 (both-left (ltb b 256) (allBelow 256 l) below) in
-    let rest : ofBytes l < 256 ^ length l = ofBytes-fits l (both-right (ltb b 256) (allBelow 256 l) below) in
-    rw pow-suc (omega arith)
 
 -- bytes that are all below a bound: so are the first of them, and the others
 pub allBelow-take : (bound n : ℕ) (l : List ℕ) → allBelow bound l ≡ true → allBelow bound (take n l) ≡ true

@@ -1,11 +1,10 @@
--- Laws of a list that is overwritten from a place on: with nothing, by four stores, its length, and one part right behind another.
+-- Laws of a list that is overwritten from a place on: with nothing, by four stores, and one part right behind another.
 use mathlib.Core.Path.{_≡_}
 use mathlib.Core.List.{List, [], _∷_, _++_, append-assoc}
 use Prim.Native.Nat.{ℕ, _+_, _≤_}
 use native.Mathlib.Nat.{add-assoc}
 use native.Mathlib.Numerals.{add-one, add-three, add-two}
-use native.Mathlib.Omega.{arith}
-use lib.ListN.{length, drop, length-append, length-drop, set, take}
+use lib.ListN.{length, drop, length-append, set, take}
 use lib.Seq.{drop-at, drop-drop, length-take-le, paste-zero, sets-eq, take-at}
 use Rattle.schedule.specs.Number.{overwritten}
 
@@ -19,10 +18,6 @@ pub overwritten-four : (at a b c d : ℕ) (l : List ℕ) → at + 4 ≤ length l
 overwritten-four at a b c d l fits = simp (add-one, add-two, add-three) (sets-eq (a ∷ b ∷ c ∷ d ∷ []) l at fits)
 
 module _ (at : ℕ) (new l : List ℕ) where
-  -- the list stays as long as it was
-  pub length-overwritten : at + length new ≤ length l → length (overwritten at new l) ≡ length l
-  length-overwritten fits = simp (length-append, length-take-le at l (omega arith), length-drop) (omega arith)
-
   -- overwriting right behind what was overwritten is overwriting once, with both parts
   pub overwritten-behind : (more : List ℕ) → at ≤ length l
       → overwritten (at + length new) more (overwritten at new l) ≡ overwritten at (new ++ more) l

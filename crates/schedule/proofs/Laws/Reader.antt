@@ -1,21 +1,22 @@
--- Laws of reading: which check decides, and where in a file its sizes and arrays lie.
-use mathlib.Core.Path.{_≡_, ap, sym, _∙_}
-use mathlib.Core.List.{List}
+-- Laws of reading: where in a file its sizes and arrays lie, which check decides, and what an answer says of the checks.
+use mathlib.Core.Path.{_≡_, refl, ap, sym, _∙_}
+use mathlib.Core.Bool.{false, not}
+use mathlib.Core.List.{List, [], _∷_}
 use Prim.Native.Nat.{ℕ, _+_, _-_, _*_, _≤_, _<_}
 use native.Mathlib.Nat.{add-sub-cancel-left, le-of-eq}
 use native.Mathlib.Omega.{arith}
-use lib.Dec.{lit<}
-use lib.ListN.{length, drop, length-drop, take}
+use lib.Dec.{eqb, lit<, ltb}
+use lib.ListN.{length, drop, getD, length-drop, take}
 use lib.Seq.{take-all}
-use borrow.Author.Tests.{eq-eqb, le-ltb, lt-ltb, ne-eqb}
-use Rattle.schedule.specs.Types.{Accepted, Failed, Passed, Refusal, Short, Sizes}
+use borrow.Author.Tests.{eq-eqb, eqb-true, le-ltb, lt-ltb, ne-eqb, not-false}
+use Rattle.schedule.specs.Types.{Accepted, Check, Failed, Passed, Refusal, Short, Sizes}
 use Rattle.schedule.specs.declared.reader.Reading.the-variants.{Refused}
 use Rattle.schedule.specs.Number.{ofBytes}
-use Rattle.schedule.specs.Check.{checkRanges}
+use Rattle.schedule.specs.Check.{checkRanges, failIf, first}
 use Rattle.schedule.specs.Format.{entriesIn, kindsIn, operandsIn, sizeIn, sizesIn, wordsIn}
 use Rattle.schedule.specs.Entries.{checkEntries}
-use Rattle.schedule.specs.Reader.{readFile}
-use Rattle.schedule.proofs.Laws.Answers.{accepted-readable}
+use Rattle.schedule.specs.Reader.{answer, readFile, readingChecks}
+use Rattle.schedule.proofs.Laws.Check.{failIf-passed, first-failed, first-passed}
 use Rattle.schedule.proofs.Laws.Format.{getD-words, kindsIn-part, operandsIn-part}
 
 -- a part of so many elements, and one to the end
@@ -58,32 +59,71 @@ module _ (file : List ℕ) where
       let operands = ap wordsIn (part-to-end (28 + n) file) ∙ sym (operandsIn-part n file whole) in
       (λ i. checkEntries (s .thieves) (kinds i) (operands i)) ∙ (λ i. checkEntries (sizes i .thieves) (kindsIn (entries i) file) (operandsIn (entries i) file))
 
-  -- Which check decides.
+  -- which check decides, where it is not the last
 
   pub read-under-28 : length file < 28 → readFile file ≡ Refused Short
-  read-under-28 under = rw (lt-ltb (length file) 28 under)
+  read-under-28 under = let none = lt-ltb (length file) 28 under in λ i. answer file (first (failIf (none i) Short ∷ drop 1 (readingChecks file)))
 
   module _ (sizes-there : 28 ≤ length file) where
+    there : ltb (length file) 28 ≡ false
+    there = le-ltb (length file) 28 sizes-there
+
     pub read-out-of-range : (r : Refusal) → checkRanges (sizesIn file) (entriesIn file) ≡ Failed r → readFile file ≡ Refused r
-    read-out-of-range r out = rw (le-ltb (length file) 28 sizes-there, out)
+    read-out-of-range r out = λ i. answer file (first (failIf (there i) Short ∷ out i ∷ drop 2 (readingChecks file)))
 
     module _ (in-range : checkRanges (sizesIn file) (entriesIn file) ≡ Passed) where
       pub read-short : (length file ≡ 28 + 5 * entriesIn file → ⊥) → readFile file ≡ Refused Short
-      read-short other = rw (le-ltb (length file) 28 sizes-there, in-range, ne-eqb (length file) (28 + 5 * entriesIn file) other)
+      read-short other =
+          let wrong = ne-eqb (length file) (28 + 5 * entriesIn file) other in
+          λ i. answer file (first (failIf (there i) Short ∷ in-range i ∷ failIf (not (wrong i)) Short ∷ drop 3 (readingChecks file)))
 
-      module _ (whole : length file ≡ 28 + 5 * entriesIn file) where
-        pub read-faulty : (r : Refusal)
-            → checkEntries (sizesIn file .thieves) (kindsIn (entriesIn file) file) (operandsIn (entriesIn file) file) ≡ Failed r
-            → readFile file ≡ Refused r
-        read-faulty r faulty =
-            rw (le-ltb (length file) 28 sizes-there, in-range, eq-eqb (length file) (28 + 5 * entriesIn file) whole, faulty)
+      pub read-faulty : length file ≡ 28 + 5 * entriesIn file → (r : Refusal)
+          → checkEntries (sizesIn file .thieves) (kindsIn (entriesIn file) file) (operandsIn (entriesIn file) file) ≡ Failed r
+          → readFile file ≡ Refused r
+      read-faulty long r faulty =
+          let whole = eq-eqb (length file) (28 + 5 * entriesIn file) long in
+          λ i. answer file (first (failIf (there i) Short ∷ in-range i ∷ failIf (not (whole i)) Short ∷ faulty i ∷ []))
 
-        pub read-accepted :
-            checkEntries (sizesIn file .thieves) (kindsIn (entriesIn file) file) (operandsIn (entriesIn file) file) ≡ Passed
-            → readFile file ≡ Accepted (sizesIn file) (entriesIn file)
-        read-accepted none =
-            rw (le-ltb (length file) 28 sizes-there, in-range, eq-eqb (length file) (28 + 5 * entriesIn file) whole, none)
+-- What a file is that passes every check.
+pub record Readable (file : List ℕ) : Type 0 where
+  pub ranges : checkRanges (sizesIn file) (entriesIn file) ≡ Passed
+  pub long : length file ≡ 28 + 5 * entriesIn file
+  pub each : checkEntries (sizesIn file .thieves) (kindsIn (entriesIn file) file) (operandsIn (entriesIn file) file) ≡ Passed
+
+-- a file is not both accepted and refused
+not-both-read : {s : Sizes} {entries : ℕ} {r : Refusal} → Accepted s entries ≡ Refused r → ⊥
+not-both-read e = let clash : _≡_ {A = ℕ} 0 1 = cc in omega arith
+
+module _ (file : List ℕ) where
+  -- it is accepted
+  pub readable-accepted : Readable file → readFile file ≡ Accepted (sizesIn file) (entriesIn file)
+  readable-accepted p =
+      let there = le-ltb (length file) 28 (omega (arith, p .long)) in
+      let whole = eq-eqb (length file) (28 + 5 * entriesIn file) (p .long) in
+      λ i. answer file (first (failIf (there i) Short ∷ p .ranges i ∷ failIf (not (whole i)) Short ∷ p .each i ∷ []))
+
+  -- .. and nothing else is
+  pub accepted-readable : (s : Sizes) (entries : ℕ) → readFile file ≡ Accepted s entries
+      → (s ≡ sizesIn file) × ((entries ≡ entriesIn file) × Readable file)
+  accepted-readable s entries e = go (first (readingChecks file)) refl e
+    where
+      go : (c : Check) → first (readingChecks file) ≡ c → answer file c ≡ Accepted s entries
+          → (s ≡ sizesIn file) × ((entries ≡ entriesIn file) × Readable file)
+      go Passed passed told =
+          let each = first-passed (readingChecks file) passed in
+          let as-long = not-false (eqb (length file) (28 + 5 * entriesIn file)) (failIf-passed _ Short (each 2)) in
+          (cc, (cc, record { ranges = each 1; long = eqb-true (length file) (28 + 5 * entriesIn file) as-long; each = each 3 }))
+      go (Failed q) passed told = absurd (not-both-read (sym told))
+
+  -- what a refusal tells, one of the checks failed with
+  pub refused-reading : (r : Refusal) → readFile file ≡ Refused r → (i : ℕ) × (getD (readingChecks file) i Passed ≡ Failed r)
+  refused-reading r e = go (first (readingChecks file)) refl e
+    where
+      go : (c : Check) → first (readingChecks file) ≡ c → answer file c ≡ Refused r
+          → (i : ℕ) × (getD (readingChecks file) i Passed ≡ Failed r)
+      go Passed found told = absurd (not-both-read told)
+      go (Failed q) found told = let failed = first-failed (readingChecks file) r (found ∙ cc) in (failed .0, failed .1 .1)
 
   -- the kinds of an accepted file lie within it
   pub accepted-holds : (s : Sizes) (entries : ℕ) → readFile file ≡ Accepted s entries → 28 + entries ≤ length file
-  accepted-holds s entries accepted = let read = accepted-readable file s entries accepted in omega (arith, read .1 .0, read .1 .1 .long)
+  accepted-holds s entries accepted = let read = accepted-readable s entries accepted in omega (arith, read .1 .0, read .1 .1 .long)

@@ -1,43 +1,95 @@
--- Laws of writing: which check decides, and that three parts written one behind the other are the file.
-use mathlib.Core.Path.{_≡_, _∙_, ap, sym}
-use mathlib.Core.Bool.{true}
-use mathlib.Core.List.{List, _++_}
+-- Laws of writing: which check decides, what an answer says of the checks, and that three parts written one behind the other are the file.
+use mathlib.Core.Path.{_≡_, refl, ap, sym, _∙_}
+use mathlib.Core.Bool.{not, true}
+use mathlib.Core.List.{List, [], _∷_, _++_}
 use Prim.Native.Nat.{ℕ, _+_, _*_, _≤_, _<_, zero-le}
 use native.Mathlib.Omega.{arith}
-use lib.Dec.{leb}
-use lib.ListN.{length, length-append}
-use borrow.Author.Tests.{eq-eqb, le-ltb, leb-true, lt-ltb, ne-eqb}
+use lib.Dec.{eqb, leb, ltb}
+use lib.ListN.{length, drop, getD, length-append}
+use borrow.Author.Tests.{eq-eqb, eqb-true, le-ltb, leb-true, lt-ltb, ltb-false, ne-eqb, not-false}
 use Rattle.machine.proofs.Laws.Tests.{both-right}
-use Rattle.schedule.specs.Types.{Failed, Passed, Refusal, Room, Short, Sizes}
-use Rattle.schedule.specs.Check.{checkRanges}
-use Rattle.schedule.specs.Entries.{checkEntries}
+use Rattle.schedule.specs.Types.{Check, Failed, Passed, Refusal, Room, Short, Sizes, Written}
+use Rattle.schedule.specs.declared.writer.Writing.the-variants.{Refused}
+use Rattle.schedule.specs.Number.{allBelow, overwritten}
+use Rattle.schedule.specs.Check.{checkRanges, failIf, first}
 use Rattle.schedule.specs.Format.{fileOf, sizeBytes, wordBytes}
-use Rattle.schedule.specs.Number.{overwritten}
-use Rattle.schedule.specs.Number.{allBelow}
-use Rattle.schedule.specs.Writer.{answer, checkWriting}
-use Rattle.schedule.proofs.Laws.Answers.{Writable, written-writable}
-use Rattle.schedule.proofs.Laws.Check.{ranges-passed}
+use Rattle.schedule.specs.Entries.{checkEntries}
+use Rattle.schedule.specs.Writer.{answer, checkWriting, writeFile, writingChecks}
+use Rattle.schedule.proofs.Laws.Check.{failIf-passed, first-failed, first-passed, ranges-passed}
 use Rattle.schedule.proofs.Laws.Format.{fileOf-parts, length-sizeBytes}
 use Rattle.schedule.proofs.Laws.Overwritten.{overwritten-behind}
 
+-- which check decides, where one fails
 module _ (s : Sizes) (kinds operands : List ℕ) (room : ℕ) where
   pub write-out-of-range : (r : Refusal) → checkRanges s (length kinds) ≡ Failed r → checkWriting s kinds operands room ≡ Failed r
-  write-out-of-range r out = rw out
+  write-out-of-range r out = λ i. first (out i ∷ drop 1 (writingChecks s kinds operands room))
 
   module _ (in-range : checkRanges s (length kinds) ≡ Passed) where
     pub write-short : (length kinds ≡ length operands → ⊥) → checkWriting s kinds operands room ≡ Failed Short
-    write-short other = rw (in-range, ne-eqb (length kinds) (length operands) other)
+    write-short other =
+        let apart = ne-eqb (length kinds) (length operands) other in
+        λ i. first (in-range i ∷ failIf (not (apart i)) Short ∷ drop 2 (writingChecks s kinds operands room))
 
     module _ (parallel : length kinds ≡ length operands) where
+      same : eqb (length kinds) (length operands) ≡ true
+      same = eq-eqb (length kinds) (length operands) parallel
+
       pub write-faulty : (r : Refusal) → checkEntries (s .thieves) kinds operands ≡ Failed r → checkWriting s kinds operands room ≡ Failed r
-      write-faulty r faulty = rw (in-range, eq-eqb (length kinds) (length operands) parallel, faulty)
+      write-faulty r faulty = λ i. first (in-range i ∷ failIf (not (same i)) Short ∷ faulty i ∷ drop 3 (writingChecks s kinds operands room))
 
-      module _ (none : checkEntries (s .thieves) kinds operands ≡ Passed) where
-        pub write-no-room : room < 28 + 5 * length kinds → checkWriting s kinds operands room ≡ Failed Room
-        write-no-room under = rw (in-range, eq-eqb (length kinds) (length operands) parallel, none, lt-ltb room (28 + 5 * length kinds) under)
+      pub write-no-room : checkEntries (s .thieves) kinds operands ≡ Passed → room < 28 + 5 * length kinds → checkWriting s kinds operands room ≡ Failed Room
+      write-no-room none under =
+          let small = lt-ltb room (28 + 5 * length kinds) under in
+          λ i. first (in-range i ∷ failIf (not (same i)) Short ∷ none i ∷ failIf (small i) Room ∷ [])
 
-        pub write-fits : 28 + 5 * length kinds ≤ room → checkWriting s kinds operands room ≡ Passed
-        write-fits enough = rw (in-range, eq-eqb (length kinds) (length operands) parallel, none, le-ltb room (28 + 5 * length kinds) enough)
+-- What sizes, arrays and room are that pass every check.
+pub record Writable (s : Sizes) (kinds operands : List ℕ) (room : ℕ) : Type 0 where
+  pub ranges : checkRanges s (length kinds) ≡ Passed
+  pub parallel : length kinds ≡ length operands
+  pub each : checkEntries (s .thieves) kinds operands ≡ Passed
+  pub fits : 28 + 5 * length kinds ≤ room
+
+-- nothing is both written and refused
+not-both-written : {n : ℕ} {r : Refusal} → Written n ≡ Refused r → ⊥
+not-both-written e = let clash : _≡_ {A = ℕ} 0 1 = cc in omega arith
+
+module _ (s : Sizes) (kinds operands : List ℕ) (room : ℕ) where
+  -- they are written
+  pub writable-passes : Writable s kinds operands room → checkWriting s kinds operands room ≡ Passed
+  writable-passes p =
+      let parallel = eq-eqb (length kinds) (length operands) (p .parallel) in
+      let enough = le-ltb room (28 + 5 * length kinds) (p .fits) in
+      λ i. first (p .ranges i ∷ failIf (not (parallel i)) Short ∷ p .each i ∷ failIf (enough i) Room ∷ [])
+
+  -- .. and nothing else is
+  pub written-writable : (n : ℕ) → writeFile s kinds operands room ≡ Written n → (n ≡ 28 + 5 * length kinds) × Writable s kinds operands room
+  written-writable n e = go (checkWriting s kinds operands room) refl e
+    where
+      go : (c : Check) → checkWriting s kinds operands room ≡ c → answer (28 + 5 * length kinds) c ≡ Written n
+          → (n ≡ 28 + 5 * length kinds) × Writable s kinds operands room
+      go Passed passed told =
+          let each = first-passed (writingChecks s kinds operands room) passed in
+          let as-long = not-false (eqb (length kinds) (length operands)) (failIf-passed _ Short (each 1)) in
+          let enough = failIf-passed (ltb room (28 + 5 * length kinds)) Room (each 3) in (
+            cc,
+            record {
+              ranges = each 0;
+              parallel = eqb-true (length kinds) (length operands) as-long;
+              each = each 2;
+              fits = ltb-false room (28 + 5 * length kinds) enough;
+            },
+          )
+      go (Failed q) passed told = absurd (not-both-written (sym told))
+
+  -- what a refusal tells, one of the checks failed with
+  pub refused-writing : (r : Refusal) → writeFile s kinds operands room ≡ Refused r
+      → (i : ℕ) × (getD (writingChecks s kinds operands room) i Passed ≡ Failed r)
+  refused-writing r e = go (checkWriting s kinds operands room) refl e
+    where
+      go : (c : Check) → checkWriting s kinds operands room ≡ c → answer (28 + 5 * length kinds) c ≡ Refused r
+          → (i : ℕ) × (getD (writingChecks s kinds operands room) i Passed ≡ Failed r)
+      go Passed found told = absurd (not-both-written told)
+      go (Failed q) found told = let failed = first-failed (writingChecks s kinds operands room) r (found ∙ cc) in (failed .0, failed .1 .1)
 
 -- what has passed all checks has few entries, and the file fits
 pub few-entries : (s : Sizes) (entries : ℕ) → checkRanges s entries ≡ Passed → entries ≤ 4096

@@ -4,8 +4,7 @@ use Prim.Native.Nat.{_-_, _<_}
 use borrow.Author.Needs.{needs}
 use lib.ListN.{length}
 use Rattle.schedule.specs.Entries.{entryAt}
-use Rattle.schedule.proofs.Laws.Check.{entryAt-both}
-use Rattle.schedule.proofs.Laws.Entries.{NoneBefore, first-faulty, none-at-all, none-before-first, none-before-next}
+use Rattle.schedule.proofs.Laws.Entries.{NoneBefore, entryAt-both, first-faulty, none-at-all, none-before-first, none-before-next}
 use Rattle.schedule.proofs.entries.check_arrays.Statement.{statement}
 use Rattle.schedule.proofs.entries.check_arrays.Tie as tie
 

@@ -8,7 +8,7 @@ use Rattle.schedule.specs.Types.{Accepted}
 use Rattle.schedule.specs.Check.{checkRanges}
 use Rattle.schedule.specs.Entries.{checkEntries}
 use Rattle.schedule.specs.Format.{entriesIn, kindsIn, operandsIn, sizesIn}
-use Rattle.schedule.proofs.Laws.Reader.{parts-checked, read-accepted, read-faulty, read-out-of-range, read-short, read-under-28, sizeIn-at}
+use Rattle.schedule.proofs.Laws.Reader.{parts-checked, read-faulty, read-out-of-range, read-short, read-under-28, readable-accepted, sizeIn-at}
 use Rattle.schedule.proofs.reader.read.Statement.{statement}
 use Rattle.schedule.proofs.reader.read.Tie as tie
 
@@ -54,11 +54,13 @@ returns-4 c =
     let entries-checked = c .before .before in
     let tested = entries-checked .before .before .before in
     let checked = tested .before .before .before in
-    let sizes-there = checked .before .before .before .if1 .left in
     let file = checked .before .before .before .before .before .args .file .now in
     (λ i. Accepted (checked .before .before .sizes-in .ensures i) (entries-read checked i))
-    ∙ sym (read-accepted file sizes-there (known (ranges-checked checked) (tested .before .enum-told .given .1)) (tested .if2 .left ∙ ap (λ n. 28 + 5 * n) (entries-read checked))
-    (known (steps-checked entries-checked) (c .enum-told2 .given .1)))
+    ∙ sym (readable-accepted file (record {
+      ranges = known (ranges-checked checked) (tested .before .enum-told .given .1);
+      long = tested .if2 .left ∙ ap (λ n. 28 + 5 * n) (entries-read checked);
+      each = known (steps-checked entries-checked) (c .enum-told2 .given .1);
+    }))
 
 returns-5 : tie.Need-returns-5
 returns-5 c =

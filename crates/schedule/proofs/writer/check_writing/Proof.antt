@@ -2,7 +2,7 @@
 use mathlib.Core.Path.{sym}
 use borrow.Author.Needs.{needs}
 use Rattle.machine.proofs.Laws.Tests.{known}
-use Rattle.schedule.proofs.Laws.Writer.{write-faulty, write-fits, write-no-room, write-out-of-range, write-short}
+use Rattle.schedule.proofs.Laws.Writer.{writable-passes, write-faulty, write-no-room, write-out-of-range, write-short}
 use Rattle.schedule.proofs.writer.check_writing.Statement.{statement}
 use Rattle.schedule.proofs.writer.check_writing.Tie as tie
 
@@ -42,8 +42,13 @@ returns-5 c =
     let tested = steps .before in
     let checked = tested .before .before .before in
     let a = checked .before .before .before .args in
-    sym (write-fits (a .sizes) (a .kinds .now) (a .operands .now) (a .room) (known (checked .check-ranges .ensures) (tested .before .enum-told .given .1)) (tested .if1 .left)
-    (known (steps .check-arrays .ensures) (c .before .enum-told2 .given .1)) (c .if2 .left))
+    sym (writable-passes (a .sizes) (a .kinds .now) (a .operands .now) (a .room)
+    (record {
+      ranges = known (checked .check-ranges .ensures) (tested .before .enum-told .given .1);
+      parallel = tested .if1 .left;
+      each = known (steps .check-arrays .ensures) (c .before .enum-told2 .given .1);
+      fits = c .if2 .left;
+    }))
 
 pub check-writing-spec : {M : Type 1} → statement M
 check-writing-spec =

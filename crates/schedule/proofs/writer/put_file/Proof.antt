@@ -2,9 +2,8 @@
 use native.Mathlib.Omega.{arith}
 use borrow.Author.Needs.{needs}
 use lib.ListN.{length}
-use Rattle.schedule.proofs.Laws.Answers.{Writable}
-use Rattle.schedule.proofs.Laws.Check.{entries-bytes}
-use Rattle.schedule.proofs.Laws.Writer.{few-entries, file-written, passed-writable}
+use Rattle.schedule.proofs.Laws.Entries.{entries-bytes}
+use Rattle.schedule.proofs.Laws.Writer.{Writable, few-entries, file-written, passed-writable}
 use Rattle.schedule.proofs.writer.put_file.Statement.{statement}
 use Rattle.schedule.proofs.writer.put_file.Tie as tie
 
