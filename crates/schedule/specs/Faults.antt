@@ -27,7 +27,7 @@ hasFault s entries kinds operands wrongLength noRoom (Who at) =
     ltb at entries && (leb (getD kinds at 0) 6 && not (operandAllowed (s .thieves) (getD kinds at 0) (getD operands at 0)))
 hasFault s entries kinds operands wrongLength noRoom Room = noRoom
 
--- a file: SHORT is under 28 bytes, or not 28 + 5 × entries; no file is refused for want of room
+-- a file: SHORT is a file without room for the seven sizes, or of another length than these say; no file is refused for want of room
 abbrev pub fileHas : List ℕ → Refusal → Bool
 fileHas file =
     hasFault (sizesIn file) (entriesIn file) (kindsIn (entriesIn file) file) (operandsIn (entriesIn file) file)

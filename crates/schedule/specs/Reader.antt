@@ -1,5 +1,4 @@
--- Reading a file. Renders "The numbers", their order ("2 for under 28 bytes; 1, lowest place first; 2 for the length; 3 and 4 at the first faulty entry"), and, of "Parts", the
--- sentence on the operand array.
+-- Reading a file. Renders the line "Order" of "The numbers", as far as a file goes, and, of "Parts", the sentence on the operand array.
 use mathlib.Core.Bool.{not}
 use mathlib.Core.List.{List, [], _∷_}
 use Prim.Native.Nat.{ℕ, _+_, _*_}
