@@ -7,17 +7,17 @@ use native.Mathlib.Omega.{arith}
 use lib.Dec.{eqb, leb, ltb}
 use lib.ListN.{getD, length}
 use borrow.Author.Tests.{eq-eqb, le-leb, le-ltb, lt-ltb, ltb-false, ltb-true, ne-eqb}
-use Rattle.schedule.specs.Types.{Accepted, Failed, Kind, Passed, Refusal, Room, Short, Size, Sizes, Who, Written}
+use Rattle.schedule.specs.Types.{Accepted, Check, Failed, Kind, Passed, Refusal, Room, Short, Size, Sizes, Who, Written}
 use Rattle.schedule.specs.declared.reader.Reading.the-variants as reading
 use Rattle.schedule.specs.declared.writer.Writing.the-variants as writing
 use Rattle.schedule.specs.Check.{checkRanges}
 use Rattle.schedule.specs.Entries.{checkEntries, checkOf, entryAt}
-use Rattle.schedule.specs.Faults.{ReaderRefusesFaults, WriterRefusesFaults, fileHas, hasFault, operandAllowed, writingHas}
-use Rattle.schedule.specs.Format.{entriesIn, kindsIn, operandsIn, sizesIn}
+use Rattle.schedule.specs.Faults.{ReaderRefusesFaults, RefusedUntouched, WriterRefusesFaults, fileHas, hasFault, operandAllowed, writingHas}
+use Rattle.schedule.specs.Format.{entriesIn, fileOf, kindsIn, operandsIn, sizesIn}
 use Rattle.schedule.specs.Reader as reader
 use Rattle.schedule.specs.Writer as writer
 use Rattle.schedule.proofs.Laws.Reader.{accepted-readable, refused-reading}
-use Rattle.schedule.proofs.Laws.Writer.{refused-writing, written-writable}
+use Rattle.schedule.proofs.Laws.Writer.{not-both-written, refused-writing, written-writable}
 use Rattle.schedule.proofs.Laws.Check.{failIf-failed, not-both}
 use Rattle.schedule.proofs.Laws.Check.{ranges-failed, ranges-passed, upTo-failed}
 use Rattle.schedule.proofs.Laws.Entries.{entries-passed, entry-passed, entryAt-check}
@@ -151,3 +151,10 @@ writer-refuses-faults s kinds operands room r = (refused, written)
         let p = written-writable s kinds operands room n e .1 in
         no-fault s (length kinds) kinds operands refl (not (eqb (length kinds) (length operands))) (ltb room (28 + 5 * length kinds))
         (p .ranges) (ap not (eq-eqb (length kinds) (length operands) (p .parallel))) (p .each) (le-ltb room (28 + 5 * length kinds) (p .fits)) r
+
+pub refused-untouched : RefusedUntouched
+refused-untouched s kinds operands buffer r e = go (writer.checkWriting s kinds operands (length buffer)) e
+  where
+    go : (c : Check) → writer.writingOf (28 + 5 * length kinds) c ≡ writing.Refused r → writer.bufferIf (fileOf s kinds operands) buffer c ≡ buffer
+    go Passed told = absurd (not-both-written told)
+    go (Failed q) told = refl

@@ -14,13 +14,13 @@ use Rattle.schedule.specs.Number.{allBelow}
 use Rattle.schedule.specs.Check.{checkRanges}
 use Rattle.schedule.specs.Entries.{checkEntries, entryAt}
 use Rattle.schedule.specs.Format.{decode, encode, entriesIn, fileOf, kindsIn, layout, operandsIn, sizeNumbers, sizesIn, wordsIn}
-use Rattle.schedule.specs.Reader.{partOf}
-use Rattle.schedule.specs.RoundTrip.{Parts, PartsOfAccepted, ReadBack, ReadThenWritten, WrittenBack, WrittenThenRead}
-use Rattle.schedule.specs.Writer.{answer, bufferAfter, left}
+use Rattle.schedule.specs.Reader.{kindPart, operandPart, partOf}
+use Rattle.schedule.specs.RoundTrip.{EntriesAsRead, EntryOfFile, Parts, PartsOfAccepted, ReadBack, ReadThenWritten, WrittenBack, WrittenThenRead}
+use Rattle.schedule.specs.Writer.{writingOf, bufferAfter, bufferIf}
 use Rattle.schedule.proofs.Laws.Reader.{Readable, accepted-readable, readable-accepted}
 use Rattle.schedule.proofs.Laws.Writer.{Writable, few-entries, writable-passes, written-writable}
 use Rattle.schedule.proofs.Laws.Check.{ranges-sizes}
-use Rattle.schedule.proofs.Laws.Entries.{check-allowed, entries-bytes, entries-passed}
+use Rattle.schedule.proofs.Laws.Entries.{check-allowed, entries-bytes, entries-passed, entry-as-read, entryAt-both}
 use Rattle.schedule.proofs.Laws.Format.{decode-encode, encode-decode, fitting, fitting-append, fitting-replicate}
 use Rattle.schedule.proofs.Laws.Format.{kindsIn-part, length-fileOf, length-kindsIn, length-operandsIn, operandsIn-part, total-layout}
 
@@ -61,7 +61,7 @@ buffer-written : (s : Sizes) (kinds operands buffer : List ℕ) → Writable s k
     → bufferAfter s kinds operands buffer ≡ fileOf s kinds operands ++ drop (length (fileOf s kinds operands)) buffer
 buffer-written s kinds operands buffer p =
     let file = fileOf s kinds operands in
-    ap (left file buffer) (writable-passes s kinds operands (length buffer) p) ∙ ap (λ n. file ++ drop n buffer) (zero-add (length file))
+    ap (bufferIf file buffer) (writable-passes s kinds operands (length buffer) p) ∙ ap (λ n. file ++ drop n buffer) (zero-add (length file))
 
 written-back : (file : List ℕ) → allBelow 256 file ≡ true → Readable file → WrittenBack file (sizesIn file) (entriesIn file)
 written-back file below p =
@@ -73,7 +73,7 @@ written-back file below p =
     record {
       same = file-again file p below;
       told = λ room fits.
-          ap (answer (28 + 5 * length kinds)) (writable-passes s kinds operands room (writable-again file p room fits)) ∙ ap Written long;
+          ap (writingOf (28 + 5 * length kinds)) (writable-passes s kinds operands room (writable-again file p room fits)) ∙ ap Written long;
       bytes = λ buffer fits.
           buffer-written s kinds operands buffer (writable-again file p (length buffer) fits)
           ∙ ap (λ l. l ++ drop (length l) buffer) (file-again file p below);
@@ -180,21 +180,39 @@ written-then-read s kinds operands words buffer n e =
 
 -- ── Parts ───────────────────────────────────────────────────────────────────────────────────────────────────────────────────
 
-parts : (file : List ℕ) → Readable file → Parts file (sizesIn file) (entriesIn file)
-parts file p =
-    let n = entriesIn file in
-    let read = readable-accepted file p in
-    let inside : 28 + n ≤ length file = omega (arith, p .long) in
-    record {
-      kinds = ap (λ r. partOf r (λ entries. take entries (drop 28 file))) read ∙ sym (kindsIn-part n file inside);
-      operands = ap (λ r. wordsIn (partOf r (λ entries. drop (28 + entries) file))) read ∙ sym (operandsIn-part n file (p .long));
-      allowed = λ at below.
-          let there : at < length (kindsIn n file) = omega (arith, length-kindsIn n file) in
-          check-allowed (entryAt (sizesIn file .thieves) (kindsIn n file) (operandsIn n file) at)
-          (entries-passed (sizesIn file .thieves) (kindsIn n file) (operandsIn n file) (p .each) at there);
-    }
+pub entries-as-read : EntriesAsRead
+entries-as-read thieves place kind operand entry allowed = entry-as-read thieves place kind operand entry allowed
+
+module _ (file : List ℕ) (p : Readable file) where
+  kinds-handed : kindPart file ≡ kindsIn (entriesIn file) file
+  kinds-handed =
+      ap (λ r. partOf r (λ entries. take entries (drop 28 file))) (readable-accepted file p)
+      ∙ sym (kindsIn-part (entriesIn file) file (omega (arith, p .long)))
+
+  operands-handed : wordsIn (operandPart file) ≡ operandsIn (entriesIn file) file
+  operands-handed =
+      ap (λ r. wordsIn (partOf r (λ entries. drop (28 + entries) file))) (readable-accepted file p)
+      ∙ sym (operandsIn-part (entriesIn file) file (p .long))
+
+  entry-handed : (at : ℕ) → at < entriesIn file → EntryOfFile file (sizesIn file) (entriesIn file) at
+  entry-handed at below =
+      let entries = entriesIn file in
+      let kinds = kindsIn entries file in
+      let operands = operandsIn entries file in
+      let thieves = sizesIn file .thieves in
+      let there : at < length kinds = omega (arith, length-kindsIn entries file) in
+      let there-too : at < length operands = omega (arith, length-operandsIn entries file) in
+      let found = check-allowed (entryAt thieves kinds operands at) (entries-passed thieves kinds operands (p .each) at there) in
+      let meant = entry-as-read thieves at (getD kinds at 0) (getD operands at 0) (found .0) (sym (entryAt-both thieves kinds operands at there there-too) ∙ found .1) in
+      record {
+        entry = found .0;
+        allowed = (λ i. entryAt thieves (kinds-handed i) (operands-handed i) at) ∙ found .1;
+        kind = meant .0;
+        operand = meant .1;
+      }
 
 pub parts-of-accepted : PartsOfAccepted
 parts-of-accepted file s entries e =
     let known = accepted-readable file s entries e in
-    rw (known .0, known .1 .0) (parts file (known .1 .1))
+    rw (known .0, known .1 .0)
+    (record { kinds = kinds-handed file (known .1 .1); operands = operands-handed file (known .1 .1); each = entry-handed file (known .1 .1) })

@@ -1,46 +1,72 @@
--- Files at every edge, as one table over the definitions: the last line of "Rehearsals" and the example of "The program's lines" byte by byte, each size at both ends of its range, every kind and operand at its limits, and
--- files with two faults, which show the order of the checks. `proofs/Edges.antt` proves one fact: every row holds.
+-- Files at their edges, as one table over the definitions: the last line of "Rehearsals" but for its trace, the example of "The program's lines" byte by byte, every size at the ends of its range and just past them, every kind with operands at
+-- their limits, all other kind bytes, and files with several faults, which show the order of the checks. `proofs/Edges.antt` proves one fact: every row holds.
 use mathlib.Core.Bool.{Bool, true, false, _&&_}
-use mathlib.Core.List.{List, [], _∷_, _++_}
+use mathlib.Core.List.{List, [], _∷_, _++_, map}
 use Prim.Native.Nat.{ℕ}
 use lib.Dec.{eqb}
 use lib.ListN.{length, replicate, take}
-use Rattle.schedule.specs.Types.{Accepted, Reading, Refusal, Sizes, Writing, Written}
+use Rattle.machine.specs.Lists.{upFrom}
+use Rattle.schedule.specs.Types.{Accepted, Allowed, Meaning, Reading, Refusal, Sizes, Writing, Written}
+use Rattle.schedule.specs.Types.{BeginPut, BeginSteal, BeginTake, ClientStore, Drain, Entry, ThiefStep, WorkerStep}
+use Rattle.schedule.specs.declared.entries.Meaning.the-variants as meaning
 use Rattle.schedule.specs.declared.reader.Reading.the-variants as reading
 use Rattle.schedule.specs.declared.writer.Writing.the-variants as writing
+use Rattle.schedule.specs.Number.{littleEndian}
 use Rattle.schedule.specs.Refusal.{numberOf, placeOf}
-use Rattle.schedule.specs.Format.{sizeNumbers, wordBytes}
+use Rattle.schedule.specs.Format.{sizeNumbers, wordBytes, wordsIn}
+use Rattle.schedule.specs.Entries.{entryAt, entryOf, kindOf, operandOf}
 use Rattle.schedule.specs.Reader.{kindPart, operandPart, readFile}
 use Rattle.schedule.specs.Writer.{bufferAfter, writeFile}
 
 -- ── Rows ────────────────────────────────────────────────────────────────────────────────────────────────────────────────────
 
 pub data Row : Type 0 where
-  -- a file that is read: its sizes and number of entries, its kinds' bytes and its operands' bytes
-  accepts : (file sizes kinds operands : List ℕ) → Row
+  -- a file that is read: its sizes, its kinds' bytes, one for each entry, and its operands' bytes
+  accepts : (file : List ℕ) → Sizes → (kinds operands : List ℕ) → Row
   -- a file that is refused, with number and place; no part of it is handed back
   refuses : (file : List ℕ) (number place : ℕ) → Row
-  -- what is written into a buffer, and what the buffer holds afterwards
-  writes : Sizes → (kinds operands buffer after : List ℕ) (bytes : ℕ) → Row
+  -- the entry that a kind and an operand mean
+  means : (thieves kind operand : ℕ) → Entry → Row
+  -- the place of two arrays, kinds and operands' bytes, at which there is no entry, with number and place
+  noEntry : (thieves : ℕ) (kinds operands : List ℕ) (at number place : ℕ) → Row
+  -- what is written into a buffer of so many bytes, what the buffer holds afterwards, and how many bytes are told
+  writes : Sizes → (kinds operands : List ℕ) (room : ℕ) (after : List ℕ) (bytes : ℕ) → Row
   -- what is not written, with number and place; the buffer, of so many bytes, holds what it held
   declines : Sizes → (kinds operands : List ℕ) (room number place : ℕ) → Row
 
-abbrev pub same : List ℕ → List ℕ → Bool
-same [] [] = true
-same [] (y ∷ m) = false
-same (x ∷ l) [] = false
-same (x ∷ l) (y ∷ m) = eqb x y && same l m
+abbrev pub equal : List ℕ → List ℕ → Bool
+equal [] [] = true
+equal [] (y ∷ m) = false
+equal (x ∷ l) [] = false
+equal (x ∷ l) (y ∷ m) = eqb x y && equal l m
+
+abbrev pub equalSizes : Sizes → Sizes → Bool
+equalSizes s t =
+    eqb (s .slots) (t .slots)
+    && eqb (s .buffer) (t .buffer)
+    && eqb (s .spacing) (t .spacing)
+    && eqb (s .margin) (t .margin)
+    && eqb (s .thieves) (t .thieves)
+    && eqb (s .start) (t .start)
 
 abbrev pub refusedBy : Refusal → ℕ → ℕ → Bool
 refusedBy r number place = eqb (numberOf r) number && eqb (placeOf r) place
 
-abbrev pub isRead : List ℕ → Reading → Bool
-isRead sizes (Accepted s entries) = same (sizeNumbers s entries) sizes
-isRead sizes (reading.Refused r) = false
+abbrev pub isRead : Sizes → ℕ → Reading → Bool
+isRead s n (Accepted t entries) = equalSizes s t && eqb n entries
+isRead s n (reading.Refused r) = false
 
 abbrev pub isNotRead : ℕ → ℕ → Reading → Bool
 isNotRead number place (Accepted s entries) = false
 isNotRead number place (reading.Refused r) = refusedBy r number place
+
+abbrev pub isEntry : Entry → Meaning → Bool
+isEntry e (Allowed f) = eqb (kindOf e) (kindOf f) && eqb (operandOf e) (operandOf f)
+isEntry e (meaning.Refused r) = false
+
+abbrev pub isNoEntry : ℕ → ℕ → Meaning → Bool
+isNoEntry number place (Allowed e) = false
+isNoEntry number place (meaning.Refused r) = refusedBy r number place
 
 abbrev pub isWritten : ℕ → Writing → Bool
 isWritten bytes (Written n) = eqb n bytes
@@ -50,31 +76,41 @@ abbrev pub isNotWritten : ℕ → ℕ → Writing → Bool
 isNotWritten number place (Written n) = false
 isNotWritten number place (writing.Refused r) = refusedBy r number place
 
--- a buffer of bytes that no row writes
-abbrev pub untouched : ℕ → List ℕ
-untouched room = replicate room 170
+-- a buffer before it is lent; no file of the table has a byte 170
+abbrev pub before : ℕ → List ℕ
+before room = replicate room 170
 
 abbrev pub holds : Row → Bool
-holds (accepts file sizes kinds operands) = isRead sizes (readFile file) && same (kindPart file) kinds && same (operandPart file) operands
-holds (refuses file number place) = isNotRead number place (readFile file) && same (kindPart file) [] && same (operandPart file) []
-holds (writes s kinds operands buffer after bytes) = isWritten bytes (writeFile s kinds operands (length buffer)) && same (bufferAfter s kinds operands buffer) after
+holds (accepts file s kinds operands) = isRead s (length kinds) (readFile file) && equal (kindPart file) kinds && equal (operandPart file) operands
+holds (refuses file number place) = isNotRead number place (readFile file) && equal (kindPart file) [] && equal (operandPart file) []
+holds (means thieves kind operand e) =
+    isEntry e (entryOf thieves 0 kind operand) && isEntry e (entryAt thieves (kind ∷ []) (wordsIn (littleEndian 4 operand)) 0)
+holds (noEntry thieves kinds operands at number place) = isNoEntry number place (entryAt thieves kinds (wordsIn operands) at)
+holds (writes s kinds operands room after bytes) =
+    isWritten bytes (writeFile s kinds operands room) && equal (bufferAfter s kinds operands (before room)) after
 holds (declines s kinds operands room number place) =
-    isNotWritten number place (writeFile s kinds operands room) && same (bufferAfter s kinds operands (untouched room)) (untouched room)
+    isNotWritten number place (writeFile s kinds operands room) && equal (bufferAfter s kinds operands (before room)) (before room)
 
--- ── The table ───────────────────────────────────────────────────────────────────────────────────────────────────────────────
+-- ── Files ───────────────────────────────────────────────────────────────────────────────────────────────────────────────────
 
--- the seven sizes alone
-abbrev pub header : List ℕ → List ℕ
-header sizes = wordBytes sizes
+abbrev pub sized : ℕ → ℕ → ℕ → ℕ → ℕ → ℕ → Sizes
+sized slots buffer spacing margin thieves start =
+    record { slots = slots; buffer = buffer; spacing = spacing; margin = margin; thieves = thieves; start = start }
 
--- a file with the sizes of 01's example but two thieves, and these arrays
-abbrev pub fileWith : List ℕ → List ℕ → List ℕ
-fileWith kinds operands = header (4 ∷ 1 ∷ 0 ∷ 1 ∷ 2 ∷ 0 ∷ length kinds ∷ []) ++ (kinds ++ wordBytes operands)
-
+-- the sizes of the example, and the same with more thieves
 abbrev pub example : Sizes
-example = record { slots = 4; buffer = 1; spacing = 0; margin = 1; thieves = 1; start = 0 }
+example = sized 4 1 0 1 1 0
 
--- the example of "The program's lines", byte by byte
+abbrev pub withThieves : ℕ → Sizes
+withThieves thieves = sized 4 1 0 1 thieves 0
+
+-- Files made with the encoder. Byte order shows in those written out below: the example, and one with sizes of several bytes.
+abbrev pub header : Sizes → ℕ → List ℕ
+header s entries = wordBytes (sizeNumbers s entries)
+
+abbrev pub fileWith : Sizes → List ℕ → List ℕ → List ℕ
+fileWith s kinds operands = header s (length kinds) ++ (kinds ++ wordBytes operands)
+
 abbrev pub exampleFile : List ℕ
 exampleFile =
     4 ∷ 0 ∷ 0 ∷ 0 ∷ 1 ∷ 0 ∷ 0 ∷ 0 ∷ 0 ∷ 0 ∷ 0 ∷ 0 ∷ 1 ∷ 0 ∷ 0 ∷ 0 ∷ 1 ∷ 0 ∷ 0 ∷ 0 ∷ 0 ∷ 0 ∷ 0 ∷ 0 ∷ 6 ∷ 0 ∷ 0 ∷ 0
@@ -82,71 +118,123 @@ exampleFile =
     ∷ 7 ∷ 0 ∷ 0 ∷ 0 ∷ 0 ∷ 0 ∷ 0 ∷ 0 ∷ 0 ∷ 0 ∷ 0 ∷ 0 ∷ 0 ∷ 0 ∷ 0 ∷ 0 ∷ 0 ∷ 0 ∷ 0 ∷ 0 ∷ 0 ∷ 0 ∷ 0 ∷ 0
     ∷ []
 
--- 28 bytes are a file of no entries
-abbrev pub alone : List ℕ → Row
-alone sizes = accepts (header sizes) sizes [] []
+abbrev pub exampleOperands : List ℕ
+exampleOperands = 7 ∷ 0 ∷ 0 ∷ 0 ∷ 0 ∷ 0 ∷ []
 
--- a size out of its range, in a file whose length is wrong too: the size is told
-abbrev pub outOfRange : List ℕ → ℕ → Row
-outOfRange sizes place = refuses (header sizes ++ (0 ∷ [])) 1 place
+abbrev pub large : Sizes
+large = sized 256 33 2 17 8 67305985
 
-abbrev pub edges : List Row
-edges =
-    -- lengths
+abbrev pub largeFile : List ℕ
+largeFile = 0 ∷ 1 ∷ 0 ∷ 0 ∷ 33 ∷ 0 ∷ 0 ∷ 0 ∷ 2 ∷ 0 ∷ 0 ∷ 0 ∷ 17 ∷ 0 ∷ 0 ∷ 0 ∷ 8 ∷ 0 ∷ 0 ∷ 0 ∷ 1 ∷ 2 ∷ 3 ∷ 4 ∷ 0 ∷ 0 ∷ 0 ∷ 0 ∷ []
+
+-- ── The table ───────────────────────────────────────────────────────────────────────────────────────────────────────────────
+
+-- sizes in range: 28 bytes are a file of no entries
+abbrev pub alone : Sizes → Row
+alone s = accepts (header s 0) s [] []
+
+-- a size out of its range is told, whether the file has the right length or not
+abbrev pub outOfRange : Sizes → ℕ → ℕ → List Row
+outOfRange s entries place = refuses (header s entries) 1 place ∷ refuses (header s entries ++ (0 ∷ [])) 1 place ∷ []
+
+-- one entry that is refused, with two thieves
+abbrev pub refusesEntry : ℕ → ℕ → ℕ → Row
+refusesEntry kind operand number = refuses (fileWith (withThieves 2) (kind ∷ []) (operand ∷ [])) number 0
+
+abbrev pub lengths : List Row
+lengths =
     refuses [] 2 0
-    ∷ refuses (take 27 (header (4 ∷ 1 ∷ 0 ∷ 1 ∷ 1 ∷ 0 ∷ 0 ∷ []))) 2 0
-    ∷ refuses (take 27 (header (0 ∷ 0 ∷ 64 ∷ 65 ∷ 0 ∷ 0 ∷ 0 ∷ []))) 2 0
-    ∷ alone (4 ∷ 1 ∷ 0 ∷ 1 ∷ 1 ∷ 0 ∷ 0 ∷ [])
-    ∷ refuses (header (4 ∷ 1 ∷ 0 ∷ 1 ∷ 1 ∷ 0 ∷ 0 ∷ []) ++ (0 ∷ [])) 2 0
-    ∷ refuses (header (4 ∷ 1 ∷ 0 ∷ 1 ∷ 1 ∷ 0 ∷ 1 ∷ [])) 2 0
-    ∷ refuses (header (4 ∷ 1 ∷ 0 ∷ 1 ∷ 1 ∷ 0 ∷ 4096 ∷ [])) 2 0
+    ∷ refuses (take 27 (header example 0)) 2 0
+    ∷ refuses (take 27 (header (sized 0 0 64 65 0 0) 0)) 2 0
+    ∷ alone example
+    ∷ refuses (header example 0 ++ (0 ∷ [])) 2 0
+    ∷ refuses (header example 1) 2 0
+    ∷ refuses (header example 4096) 2 0
     ∷ refuses (take 57 exampleFile) 2 0
     ∷ refuses (exampleFile ++ (0 ∷ [])) 2 0
-    -- each size at the ends of its range, and just past them
-    ∷ alone (2 ∷ 1 ∷ 0 ∷ 0 ∷ 1 ∷ 0 ∷ 0 ∷ [])
-    ∷ alone (256 ∷ 64 ∷ 63 ∷ 64 ∷ 8 ∷ 2147483647 ∷ 0 ∷ [])
-    ∷ outOfRange (1 ∷ 1 ∷ 0 ∷ 0 ∷ 1 ∷ 0 ∷ 0 ∷ []) 0
-    ∷ outOfRange (257 ∷ 1 ∷ 0 ∷ 0 ∷ 1 ∷ 0 ∷ 0 ∷ []) 0
-    ∷ outOfRange (2 ∷ 0 ∷ 0 ∷ 0 ∷ 1 ∷ 0 ∷ 0 ∷ []) 1
-    ∷ outOfRange (2 ∷ 65 ∷ 0 ∷ 0 ∷ 1 ∷ 0 ∷ 0 ∷ []) 1
-    ∷ outOfRange (2 ∷ 1 ∷ 64 ∷ 0 ∷ 1 ∷ 0 ∷ 0 ∷ []) 2
-    ∷ outOfRange (2 ∷ 1 ∷ 0 ∷ 65 ∷ 1 ∷ 0 ∷ 0 ∷ []) 3
-    ∷ outOfRange (2 ∷ 1 ∷ 0 ∷ 0 ∷ 0 ∷ 0 ∷ 0 ∷ []) 4
-    ∷ outOfRange (2 ∷ 1 ∷ 0 ∷ 0 ∷ 9 ∷ 0 ∷ 0 ∷ []) 4
-    ∷ outOfRange (2 ∷ 1 ∷ 0 ∷ 0 ∷ 1 ∷ 2147483648 ∷ 0 ∷ []) 5
-    ∷ outOfRange (2 ∷ 1 ∷ 0 ∷ 0 ∷ 1 ∷ 4294967295 ∷ 0 ∷ []) 5
-    ∷ outOfRange (2 ∷ 1 ∷ 0 ∷ 0 ∷ 1 ∷ 0 ∷ 4097 ∷ []) 6
-    -- of several sizes out of range, the lowest place
-    ∷ outOfRange (2 ∷ 1 ∷ 64 ∷ 65 ∷ 0 ∷ 0 ∷ 4097 ∷ []) 2
-    -- every kind; a put's number is any, a thief's is below the number of thieves
-    ∷ accepts exampleFile (4 ∷ 1 ∷ 0 ∷ 1 ∷ 1 ∷ 0 ∷ 6 ∷ []) (2 ∷ 4 ∷ 4 ∷ 4 ∷ 0 ∷ 4 ∷ []) (wordBytes (7 ∷ 0 ∷ 0 ∷ 0 ∷ 0 ∷ 0 ∷ []))
-    ∷ accepts (fileWith (0 ∷ 1 ∷ 2 ∷ 3 ∷ 4 ∷ 5 ∷ 6 ∷ []) (0 ∷ 0 ∷ 4294967295 ∷ 0 ∷ 0 ∷ 0 ∷ 1 ∷ [])) (4 ∷ 1 ∷ 0 ∷ 1 ∷ 2 ∷ 0 ∷ 7 ∷ [])
+    ∷ []
+
+abbrev pub sizes : List Row
+sizes =
+    alone (sized 2 1 0 0 1 0)
+    ∷ alone (sized 256 64 63 64 8 2147483647)
+    -- no size limits another: a margin that is too small, a spacing and a margin beyond the buffer
+    ∷ alone (sized 4 64 0 1 1 0)
+    ∷ alone (sized 2 1 63 64 1 0)
+    ∷ accepts largeFile large [] []
+    ∷ outOfRange (sized 1 1 0 0 1 0) 0 0
+    ++ outOfRange (sized 257 1 0 0 1 0) 0 0
+    ++ outOfRange (sized 2 0 0 0 1 0) 0 1
+    ++ outOfRange (sized 2 65 0 0 1 0) 0 1
+    ++ outOfRange (sized 2 1 64 0 1 0) 0 2
+    ++ outOfRange (sized 2 1 0 65 1 0) 0 3
+    ++ outOfRange (sized 2 1 0 0 0 0) 0 4
+    ++ outOfRange (sized 2 1 0 0 9 0) 0 4
+    ++ outOfRange (sized 2 1 0 0 1 2147483648) 0 5
+    ++ outOfRange (sized 2 1 0 0 1 4294967295) 0 5
+    ++ outOfRange (sized 2 1 0 0 1 0) 4097 6
+    -- of several the lowest place
+    ++ outOfRange (sized 2 1 64 65 0 0) 4097 2
+    ++ outOfRange (sized 2 1 0 0 9 0) 4097 4
+
+abbrev pub entries : List Row
+entries =
+    means 2 0 0 Drain
+    ∷ means 2 1 0 ClientStore
+    ∷ means 2 2 4294967295 (BeginPut 4294967295)
+    ∷ means 2 2 0 (BeginPut 0)
+    ∷ means 2 3 0 BeginTake
+    ∷ means 2 4 0 WorkerStep
+    ∷ means 2 5 0 (BeginSteal 0)
+    ∷ means 2 5 1 (BeginSteal 1)
+    ∷ means 8 6 7 (ThiefStep 7)
+    ∷ accepts exampleFile example (2 ∷ 4 ∷ 4 ∷ 4 ∷ 0 ∷ 4 ∷ []) (wordBytes exampleOperands)
+    ∷ accepts (fileWith (withThieves 2) (0 ∷ 1 ∷ 2 ∷ 3 ∷ 4 ∷ 5 ∷ 6 ∷ []) (0 ∷ 0 ∷ 4294967295 ∷ 0 ∷ 0 ∷ 0 ∷ 1 ∷ [])) (withThieves 2)
     (0 ∷ 1 ∷ 2 ∷ 3 ∷ 4 ∷ 5 ∷ 6 ∷ [])
     (wordBytes (0 ∷ 0 ∷ 4294967295 ∷ 0 ∷ 0 ∷ 0 ∷ 1 ∷ []))
-    ∷ refuses (fileWith (7 ∷ []) (0 ∷ [])) 3 0
-    ∷ refuses (fileWith (0 ∷ 255 ∷ []) (0 ∷ 0 ∷ [])) 3 1
-    ∷ refuses (fileWith (0 ∷ []) (1 ∷ [])) 4 0
-    ∷ refuses (fileWith (1 ∷ []) (16777216 ∷ [])) 4 0
-    ∷ refuses (fileWith (3 ∷ []) (1 ∷ [])) 4 0
-    ∷ refuses (fileWith (4 ∷ []) (1 ∷ [])) 4 0
-    ∷ refuses (fileWith (5 ∷ []) (2 ∷ [])) 4 0
-    ∷ refuses (fileWith (6 ∷ []) (2 ∷ [])) 4 0
+    ∷ accepts (fileWith (withThieves 8) (5 ∷ 6 ∷ []) (7 ∷ 0 ∷ [])) (withThieves 8) (5 ∷ 6 ∷ []) (7 ∷ 0 ∷ 0 ∷ 0 ∷ 0 ∷ 0 ∷ 0 ∷ 0 ∷ [])
+    -- an operand of which only the lowest byte would be allowed
+    ∷ refusesEntry 0 1 4
+    ∷ refusesEntry 0 256 4
+    ∷ refusesEntry 1 16777216 4
+    ∷ refusesEntry 3 65536 4
+    ∷ refusesEntry 4 4294967040 4
+    ∷ refusesEntry 5 2 4
+    ∷ refusesEntry 5 256 4
+    ∷ refusesEntry 6 2 4
+    ∷ refusesEntry 6 16777216 4
+    ∷ refuses (fileWith (withThieves 8) (5 ∷ []) (8 ∷ [])) 4 0
     -- within an entry the kind first; of the entries the first faulty one; the length before all of them
-    ∷ refuses (fileWith (7 ∷ []) (9 ∷ [])) 3 0
-    ∷ refuses (fileWith (2 ∷ 5 ∷ 7 ∷ []) (3 ∷ 2 ∷ 0 ∷ [])) 4 1
-    ∷ refuses (fileWith (2 ∷ 9 ∷ 5 ∷ []) (3 ∷ 0 ∷ 2 ∷ [])) 3 1
-    ∷ refuses (fileWith (7 ∷ []) (0 ∷ []) ++ (0 ∷ [])) 2 0
-    -- writing: the bytes, and those beyond
-    ∷ writes example (2 ∷ 4 ∷ 4 ∷ 4 ∷ 0 ∷ 4 ∷ []) (7 ∷ 0 ∷ 0 ∷ 0 ∷ 0 ∷ 0 ∷ []) (untouched 60) (exampleFile ++ untouched 2) 58
-    ∷ writes example [] [] (untouched 28) (header (4 ∷ 1 ∷ 0 ∷ 1 ∷ 1 ∷ 0 ∷ 0 ∷ [])) 28
-    ∷ writes example (2 ∷ []) (67305985 ∷ []) (untouched 33) (header (4 ∷ 1 ∷ 0 ∷ 1 ∷ 1 ∷ 0 ∷ 1 ∷ []) ++ (2 ∷ 1 ∷ 2 ∷ 3 ∷ 4 ∷ [])) 33
-    -- what is declined, two faults at a time in their order: a size, the lengths, a kind or an operand, the room
-    ∷ declines (record { slots = 4; buffer = 65; spacing = 0; margin = 1; thieves = 9; start = 0 }) (7 ∷ []) [] 0 1 1
-    ∷ declines example (replicate 4097 0) [] 0 1 6
-    ∷ declines example (7 ∷ []) [] 0 2 0
-    ∷ declines example [] (0 ∷ []) 40 2 0
-    ∷ declines example (7 ∷ []) (0 ∷ []) 0 3 0
-    ∷ declines example (0 ∷ 5 ∷ 7 ∷ []) (0 ∷ 1 ∷ 0 ∷ []) 0 4 1
+    ∷ refusesEntry 7 9 3
+    ∷ refuses (fileWith (withThieves 2) (0 ∷ 255 ∷ []) (0 ∷ 0 ∷ [])) 3 1
+    ∷ refuses (fileWith (withThieves 2) (2 ∷ 5 ∷ 7 ∷ []) (3 ∷ 2 ∷ 0 ∷ [])) 4 1
+    ∷ refuses (fileWith (withThieves 2) (2 ∷ 9 ∷ 5 ∷ []) (3 ∷ 0 ∷ 2 ∷ [])) 3 1
+    ∷ refuses (fileWith (withThieves 2) (7 ∷ []) (0 ∷ []) ++ (0 ∷ [])) 2 0
+    -- a place that one of the arrays does not have
+    ∷ noEntry 2 (0 ∷ []) (0 ∷ 0 ∷ 0 ∷ 0 ∷ []) 1 2 0
+    ∷ noEntry 2 (0 ∷ []) (0 ∷ 0 ∷ 0 ∷ []) 0 2 0
+    ∷ noEntry 2 (7 ∷ []) [] 0 2 0
+    -- every byte above 6
+    ∷ map (λ kind. noEntry 8 (0 ∷ kind ∷ []) (replicate 8 0) 1 3 1) (upFrom 7 249)
+
+abbrev pub writings : List Row
+writings =
+    writes example (2 ∷ 4 ∷ 4 ∷ 4 ∷ 0 ∷ 4 ∷ []) exampleOperands 60 (exampleFile ++ before 2) 58
+    ∷ writes large [] [] 29 (largeFile ++ before 1) 28
+    ∷ writes example (2 ∷ []) (67305985 ∷ []) 33 (header example 1 ++ (2 ∷ 1 ∷ 2 ∷ 3 ∷ 4 ∷ [])) 33
+    -- in their order: the sizes, lowest place first, the lengths, the first faulty entry with its kind first, the room
+    ∷ declines (sized 4 65 0 1 9 0) (7 ∷ []) [] 27 1 1
+    ∷ declines (withThieves 9) (replicate 4097 0) [] 27 1 4
+    ∷ declines example (replicate 4097 0) [] 27 1 6
+    ∷ declines example (replicate 4096 0) [] 27 2 0
+    ∷ declines example (7 ∷ 0 ∷ []) (0 ∷ []) 37 2 0
+    ∷ declines example (7 ∷ []) (0 ∷ 0 ∷ []) 32 2 0
+    ∷ declines example (7 ∷ []) (9 ∷ []) 32 3 0
+    ∷ declines example (2 ∷ 9 ∷ 5 ∷ []) (3 ∷ 0 ∷ 2 ∷ []) 42 3 1
+    ∷ declines example (0 ∷ 5 ∷ 7 ∷ []) (0 ∷ 1 ∷ 0 ∷ []) 42 4 1
     ∷ declines example [] [] 27 8 0
     ∷ declines example (2 ∷ []) (7 ∷ []) 32 8 0
     ∷ []
+
+abbrev pub edges : List Row
+edges = lengths ++ sizes ++ entries ++ writings

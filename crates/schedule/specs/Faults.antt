@@ -1,5 +1,5 @@
--- What each refusal says, in plain terms. Renders 1 to 4 and 8, of "The numbers", one by one and without their order. `Reader` and `Writer` say which of several faults is told; here
--- stands that what is told is a fault, and that what has a fault is refused.
+-- What is refused, and for what. Renders 1 to 4, of "The numbers", one by one and without their order, and 8 for the writer. `Reader` and `Writer` say which of several faults is told; here stands that what is told is a
+-- fault, and that what has a fault is refused. Kinds and operands are said a second time here, in other words; ranges and layout are those of `Check` and `Format`. Proved in `proofs/Faults.antt`.
 use mathlib.Core.Path.{_≡_}
 use mathlib.Core.Bool.{Bool, true, false, cond, not, _&&_, _||_}
 use mathlib.Core.List.{List}
@@ -12,13 +12,13 @@ use Rattle.schedule.specs.declared.writer.Writing.the-variants as writin
 use Rattle.schedule.specs.Check.{sizesKept}
 use Rattle.schedule.specs.Format.{entriesIn, kindsIn, operandsIn, sizesIn}
 use Rattle.schedule.specs.Reader.{readFile}
-use Rattle.schedule.specs.Writer.{writeFile}
+use Rattle.schedule.specs.Writer.{bufferAfter, writeFile}
 
 -- any number for kind 2, a thief below the number of thieves for 5 and 6, and 0 for the others
 abbrev pub operandAllowed : ℕ → ℕ → ℕ → Bool
 operandAllowed thieves kind operand = cond (eqb kind 2) true (cond (eqb kind 5 || eqb kind 6) (ltb operand thieves) (eqb operand 0))
 
--- Whether sizes, entries, lengths and room have the fault that a refusal tells. Which lengths are wrong, and what room is too small, is for reader and writer to say.
+-- Whether there is the fault that a refusal tells. Whether a length is wrong, or the room too small, is handed in: it is one thing for a file and another for a writer.
 abbrev pub hasFault : Sizes → ℕ → List ℕ → List ℕ → Bool → Bool → Refusal → Bool
 hasFault s entries kinds operands wrongLength noRoom (Size place) = not (getD (sizesKept s entries) place true)
 hasFault s entries kinds operands wrongLength noRoom Short = wrongLength
@@ -27,7 +27,7 @@ hasFault s entries kinds operands wrongLength noRoom (Who at) =
     ltb at entries && (leb (getD kinds at 0) 6 && not (operandAllowed (s .thieves) (getD kinds at 0) (getD operands at 0)))
 hasFault s entries kinds operands wrongLength noRoom Room = noRoom
 
--- a file: SHORT is a file without room for the seven sizes, or of another length than these say; no file is refused for want of room
+-- a file: SHORT is a file without room for the seven sizes, or of another length than these say; no file is refused for want of room. (Where sizes are missing, their bytes count as 0.)
 abbrev pub fileHas : List ℕ → Refusal → Bool
 fileHas file =
     hasFault (sizesIn file) (entriesIn file) (kindsIn (entriesIn file) file) (operandsIn (entriesIn file) file)
@@ -52,3 +52,9 @@ WriterRefusesFaults =
     (s : Sizes) (kinds operands : List ℕ) (room : ℕ) (r : Refusal)
     → (writeFile s kinds operands room ≡ writing.Refused r → writingHas s kinds operands room r ≡ true)
     × ((n : ℕ) → writeFile s kinds operands room ≡ Written n → writingHas s kinds operands room r ≡ false)
+
+-- what is refused leaves the lent buffer as it was
+abbrev pub RefusedUntouched : Type 0
+RefusedUntouched =
+    (s : Sizes) (kinds operands buffer : List ℕ) (r : Refusal)
+    → writeFile s kinds operands (length buffer) ≡ writing.Refused r → bufferAfter s kinds operands buffer ≡ buffer

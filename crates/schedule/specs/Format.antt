@@ -1,4 +1,5 @@
--- The layout of a schedule file. Renders the first paragraph of "The schedule file". `layout` is the one description of the format: the writer encodes by it, and the reader decodes by it.
+-- The layout of a schedule file. Renders the first paragraph of "The schedule file". `layout` is the one description of the format: the writer encodes by it, and the reader decodes by it. The lengths 28 and 28 + 5 × entries, which
+-- 01 gives as numbers, stand as numbers in `Reader` and `Writer`; `RoundTrip` ties them to the layout.
 use mathlib.Core.List.{List, [], _∷_, _++_}
 use Prim.Native.Nat.{ℕ, _+_, _/_}
 use lib.ListN.{length, drop, getD, replicate, take}
@@ -16,7 +17,8 @@ encode [] numbers = []
 encode (width ∷ l) [] = []
 encode (width ∷ l) (n ∷ numbers) = littleEndian width n ++ encode l numbers
 
--- the numbers that stand one after the other in some bytes, each in as many as the layout gives it
+-- the numbers that stand one after the other in some bytes, each in as many as the layout gives it; bytes that are missing count as 0, and
+-- no check goes by such a number
 abbrev pub decode : List ℕ → List ℕ → List ℕ
 decode [] bytes = []
 decode (width ∷ l) bytes = ofBytes (take width bytes) ∷ decode l (drop width bytes)
@@ -34,22 +36,22 @@ fileOf s kinds operands = encode (layout (length kinds)) (sizeNumbers s (length 
 -- ── What stands in a file ───────────────────────────────────────────────────────────────────────────────────────────────────
 
 -- the size at a place of the table; the sizes stand first, however many entries follow
-abbrev pub sizeIn : List ℕ → ℕ → ℕ
-sizeIn file place = getD (decode (layout 0) file) place 0
+abbrev pub sizeIn : ℕ → List ℕ → ℕ
+sizeIn place file = getD (decode (layout 0) file) place 0
 
 abbrev pub sizesIn : List ℕ → Sizes
 sizesIn file =
     record {
-      slots = sizeIn file 0;
-      buffer = sizeIn file 1;
-      spacing = sizeIn file 2;
-      margin = sizeIn file 3;
-      thieves = sizeIn file 4;
-      start = sizeIn file 5;
+      slots = sizeIn 0 file;
+      buffer = sizeIn 1 file;
+      spacing = sizeIn 2 file;
+      margin = sizeIn 3 file;
+      thieves = sizeIn 4 file;
+      start = sizeIn 5 file;
     }
 
 abbrev pub entriesIn : List ℕ → ℕ
-entriesIn file = sizeIn file 6
+entriesIn file = sizeIn 6 file
 
 -- the two parallel arrays of a file with so many entries
 abbrev pub kindsIn : ℕ → List ℕ → List ℕ

@@ -1,5 +1,5 @@
 -- What the promises about schedule files say. Names in quotation marks are places of the scope paper, 01. The files stand in reading order; `readFile` in `Reader` and
--- `writeFile` in `Writer` are what `read` and `write` answer, `fileOf` in `Format` is the file that both go by.
+-- `writeFile` in `Writer` are what `read` and `write` answer, `layout` in `Format` is what both go by.
 --
 -- numbers in bytes                      Number
 -- refusals, their numbers and places    Refusal

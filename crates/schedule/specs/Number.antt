@@ -20,6 +20,6 @@ ofBytes (b ∷ l) = b + 256 * ofBytes l
 abbrev pub allBelow : ℕ → List ℕ → Bool
 allBelow bound l = all (λ n. ltb n bound) l
 
--- a list with other elements from a place on, as many as are given
+-- a list with other elements from a place on, as many as are given: a file at the front of a buffer, and each part of it behind the one before
 abbrev pub overwritten : ℕ → List ℕ → List ℕ → List ℕ
 overwritten at new l = take at l ++ new ++ drop (at + length new) l

@@ -1,11 +1,12 @@
--- Reading a file. Renders the line "Order" of "The numbers", as far as a file goes, and, of "Parts", the sentence on the operand array.
+-- Reading a file. Renders the line "Order" of "The numbers" up to the entries (8 is for those who are lent a buffer), and, of "Parts", the
+-- sentence on the operand array.
 use mathlib.Core.Bool.{not}
 use mathlib.Core.List.{List, [], _∷_}
 use Prim.Native.Nat.{ℕ, _+_, _*_}
 use lib.Dec.{eqb, ltb}
 use lib.ListN.{length, drop, take}
 use Rattle.schedule.specs.Types.{Accepted, Check, Failed, Passed, Reading, Short}
-use Rattle.schedule.specs.declared.reader.Reading.the-variants.{Refused}
+use Rattle.schedule.specs.declared.reader.Reading.the-variants as reading
 use Rattle.schedule.specs.Check.{checkRanges, failIf, first}
 use Rattle.schedule.specs.Entries.{checkEntries}
 use Rattle.schedule.specs.Format.{entriesIn, kindsIn, operandsIn, sizesIn}
@@ -19,18 +20,18 @@ readingChecks file =
     ∷ checkEntries (sizesIn file .thieves) (kindsIn (entriesIn file) file) (operandsIn (entriesIn file) file)
     ∷ []
 
-abbrev pub answer : List ℕ → Check → Reading
-answer file Passed = Accepted (sizesIn file) (entriesIn file)
-answer file (Failed r) = Refused r
+abbrev pub readingOf : List ℕ → Check → Reading
+readingOf file Passed = Accepted (sizesIn file) (entriesIn file)
+readingOf file (Failed r) = reading.Refused r
 
 -- what reading a file comes to: its sizes and the number of its entries, or the refusal
 abbrev pub readFile : List ℕ → Reading
-readFile file = answer file (first (readingChecks file))
+readFile file = readingOf file (first (readingChecks file))
 
 -- a part of a file that is read; nothing of one that is refused
 abbrev pub partOf : Reading → (ℕ → List ℕ) → List ℕ
 partOf (Accepted s entries) part = part entries
-partOf (Refused r) part = []
+partOf (reading.Refused r) part = []
 
 -- the kind bytes: the entries' number of bytes from 28 on
 abbrev pub kindPart : List ℕ → List ℕ

@@ -1,4 +1,4 @@
--- Refusals of a whole file, in the paper's numbers. Renders "The numbers, by who can cause them": 1 to 4, and 8.
+-- Refusals of a whole file, in the paper's numbers. Renders "The numbers, by who can cause them": 1 to 4 and, for whoever lends a buffer, 8.
 use Prim.Native.Nat.{ℕ}
 use Rattle.schedule.specs.Types.{Refusal, Size, Short, Kind, Who, Room}
 

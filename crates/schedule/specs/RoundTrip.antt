@@ -1,17 +1,18 @@
--- Files that are read and written back, and the other way round. Renders what demand 2 asks of files; and that the parts and the entries of an accepted file are what the reader judged.
+-- Files that are read and written back, and the other way round; and the parts and the entries of an accepted file. Nothing of this is a sentence of 01: it follows from "The schedule file", and joins reader and writer.
+-- Proved in `proofs/RoundTrip.antt`.
 use mathlib.Core.Path.{_≡_}
 use mathlib.Core.Bool.{true}
 use mathlib.Core.List.{List, _++_}
 use Prim.Native.Nat.{ℕ, _≤_, _<_}
-use lib.ListN.{length, drop, take}
+use lib.ListN.{length, drop, getD, take}
 use Rattle.schedule.specs.Types.{Accepted, Allowed, Entry, Sizes, Written}
 use Rattle.schedule.specs.Number.{allBelow}
-use Rattle.schedule.specs.Entries.{entryAt}
+use Rattle.schedule.specs.Entries.{entryAt, entryOf, kindOf, operandOf}
 use Rattle.schedule.specs.Format.{fileOf, kindsIn, operandsIn, wordsIn}
 use Rattle.schedule.specs.Reader.{kindPart, operandPart, readFile}
 use Rattle.schedule.specs.Writer.{bufferAfter, writeFile}
 
--- an accepted file is the file of its sizes and arrays, and so it is written back, byte for byte, into any buffer that it fits in
+-- an accepted file, of bytes, is the file of its sizes and arrays, and so it is written back, byte for byte, into any buffer that it fits in
 pub record WrittenBack (file : List ℕ) (s : Sizes) (entries : ℕ) : Type 0 where
   pub same : fileOf s (kindsIn entries file) (operandsIn entries file) ≡ file
   pub told : (room : ℕ) → length file ≤ room → writeFile s (kindsIn entries file) (operandsIn entries file) room ≡ Written (length file)
@@ -23,7 +24,7 @@ ReadThenWritten =
     (file : List ℕ) → allBelow 256 file ≡ true
     → (s : Sizes) (entries : ℕ) → readFile file ≡ Accepted s entries → WrittenBack file s entries
 
--- what has been written is read as the same sizes and the same arrays, and so as the same entries
+-- what has been written, with operands of 32 bits, is read as the same sizes and the same arrays
 pub record ReadBack (s : Sizes) (kinds operands file : List ℕ) : Type 0 where
   pub accepted : readFile file ≡ Accepted s (length kinds)
   pub kinds-same : kindsIn (length kinds) file ≡ kinds
@@ -35,11 +36,24 @@ WrittenThenRead =
     → (buffer : List ℕ) (n : ℕ) → writeFile s kinds operands (length buffer) ≡ Written n
     → ReadBack s kinds operands (take n (bufferAfter s kinds operands buffer))
 
--- the two parts that are handed back hold the two arrays, and each entry of an accepted file is allowed
+-- an allowed entry has the kind and the operand that it was read from
+abbrev pub EntriesAsRead : Type 0
+EntriesAsRead =
+    (thieves place kind operand : ℕ) (entry : Entry)
+    → entryOf thieves place kind operand ≡ Allowed entry → (kindOf entry ≡ kind) × (operandOf entry ≡ operand)
+
+-- an entry of an accepted file, looked up in the two parts that are handed back: it is allowed, and it has the kind and the operand that stand in the file
+pub record EntryOfFile (file : List ℕ) (s : Sizes) (entries at : ℕ) : Type 0 where
+  pub entry : Entry
+  pub allowed : entryAt (s .thieves) (kindPart file) (wordsIn (operandPart file)) at ≡ Allowed entry
+  pub kind : kindOf entry ≡ getD (kindsIn entries file) at 0
+  pub operand : operandOf entry ≡ getD (operandsIn entries file) at 0
+
+-- the two parts that are handed back hold the two arrays, and all entries are there
 pub record Parts (file : List ℕ) (s : Sizes) (entries : ℕ) : Type 0 where
   pub kinds : kindPart file ≡ kindsIn entries file
   pub operands : wordsIn (operandPart file) ≡ operandsIn entries file
-  pub allowed : (at : ℕ) → at < entries → (entry : Entry) × (entryAt (s .thieves) (kindsIn entries file) (operandsIn entries file) at ≡ Allowed entry)
+  pub each : (at : ℕ) → at < entries → EntryOfFile file s entries at
 
 abbrev pub PartsOfAccepted : Type 0
-PartsOfAccepted = (file : List ℕ) → (s : Sizes) (entries : ℕ) → readFile file ≡ Accepted s entries → Parts file s entries
+PartsOfAccepted = (file : List ℕ) (s : Sizes) (entries : ℕ) → readFile file ≡ Accepted s entries → Parts file s entries

@@ -5,7 +5,7 @@ use Prim.Native.Nat.{ℕ, _+_, _*_}
 use lib.Dec.{eqb, ltb}
 use lib.ListN.{length}
 use Rattle.schedule.specs.Types.{Check, Failed, Passed, Room, Short, Sizes, Writing, Written}
-use Rattle.schedule.specs.declared.writer.Writing.the-variants.{Refused}
+use Rattle.schedule.specs.declared.writer.Writing.the-variants as writing
 use Rattle.schedule.specs.Check.{checkRanges, failIf, first}
 use Rattle.schedule.specs.Entries.{checkEntries}
 use Rattle.schedule.specs.Format.{fileOf}
@@ -23,18 +23,18 @@ writingChecks s kinds operands room =
 abbrev pub checkWriting : Sizes → List ℕ → List ℕ → ℕ → Check
 checkWriting s kinds operands room = first (writingChecks s kinds operands room)
 
-abbrev pub answer : ℕ → Check → Writing
-answer n Passed = Written n
-answer n (Failed r) = Refused r
+abbrev pub writingOf : ℕ → Check → Writing
+writingOf n Passed = Written n
+writingOf n (Failed r) = writing.Refused r
 
 -- what writing comes to: how many bytes the file has, or the refusal
 abbrev pub writeFile : Sizes → List ℕ → List ℕ → ℕ → Writing
-writeFile s kinds operands room = answer (28 + 5 * length kinds) (checkWriting s kinds operands room)
+writeFile s kinds operands room = writingOf (28 + 5 * length kinds) (checkWriting s kinds operands room)
 
-abbrev pub left : List ℕ → List ℕ → Check → List ℕ
-left file buffer Passed = overwritten 0 file buffer
-left file buffer (Failed r) = buffer
+abbrev pub bufferIf : List ℕ → List ℕ → Check → List ℕ
+bufferIf file buffer Passed = overwritten 0 file buffer
+bufferIf file buffer (Failed r) = buffer
 
 -- what the buffer holds afterwards: the file and, beyond it, what it held; if refused, all that it held
 abbrev pub bufferAfter : Sizes → List ℕ → List ℕ → List ℕ → List ℕ
-bufferAfter s kinds operands buffer = left (fileOf s kinds operands) buffer (checkWriting s kinds operands (length buffer))
+bufferAfter s kinds operands buffer = bufferIf (fileOf s kinds operands) buffer (checkWriting s kinds operands (length buffer))

@@ -29,7 +29,7 @@ fn allowed_if(allowed: bool, place: usize, entry: Entry) -> Meaning
 
 // What a kind byte means, over its whole range, with the operand beside it. The place is the entry's in its schedule, for a
 // refusal to tell. The kind is judged before the operand.
-pub fn entry_of(place: usize, kind: u8, operand: u32, thieves: u32) -> Meaning
+pub fn entry_of(thieves: u32, place: usize, kind: u8, operand: u32) -> Meaning
     ensures { λ r. ⌜ r ≡ entryOf thieves place kind operand ⌝ }
 {
     match kind {
@@ -45,12 +45,12 @@ pub fn entry_of(place: usize, kind: u8, operand: u32, thieves: u32) -> Meaning
 }
 
 // The entry at a place of the two parts that a file's arrays are: kind bytes, and four bytes for each operand.
-pub fn entry_at(kinds: &[u8], operands: &[u8], thieves: u32, at: usize) -> Meaning
+pub fn entry_at(thieves: u32, kinds: &[u8], operands: &[u8], at: usize) -> Meaning
     ensures { λ r. ⌜ r ≡ entryAt thieves (now (kinds .entry)) (wordsIn (now (operands .entry))) at ⌝ }
 {
     if at < kinds.len() {
         if at < operands.len() / 4 {
-            return entry_of(at, kinds[at], word_at(operands, 4 * at), thieves);
+            return entry_of(thieves, at, kinds[at], word_at(operands, 4 * at));
         }
     }
     Meaning::Refused(Refusal::Short)
@@ -63,7 +63,7 @@ pub(crate) fn check_part(thieves: u32, kinds: &[u8], operands: &[u8]) -> Check
 {
     let mut at = 0;
     while at < kinds.len() {
-        let meaning = entry_of(at, kinds[at], word_at(operands, 4 * at), thieves);
+        let meaning = entry_of(thieves, at, kinds[at], word_at(operands, 4 * at));
         if let Meaning::Refused(refusal) = meaning {
             return Check::Failed(refusal);
         }
@@ -79,7 +79,7 @@ pub(crate) fn check_arrays(thieves: u32, kinds: &[u8], operands: &[u32]) -> Chec
 {
     let mut at = 0;
     while at < kinds.len() {
-        let meaning = entry_of(at, kinds[at], operands[at], thieves);
+        let meaning = entry_of(thieves, at, kinds[at], operands[at]);
         if let Meaning::Refused(refusal) = meaning {
             return Check::Failed(refusal);
         }

@@ -6,22 +6,26 @@ use Prim.Native.Nat.{ℕ, zero, suc, _+_, _*_, _/_, _≤_, _<_, zero-le}
 use native.Mathlib.Omega.{arith}
 use lib.Dec.{eqb, ltb}
 use lib.ListN.{length, drop, getD, take, List·getD-eq-default}
-use borrow.Author.Tests.{le-ltb, lt-ltb, ltb-false, ltb-true}
+use borrow.Author.Tests.{eqb-true, le-ltb, lt-ltb, ltb-false, ltb-true}
 use Rattle.machine.specs.Lists.{upTo}
 use Rattle.machine.proofs.Laws.Lists.{all-each}
 use Rattle.machine.proofs.Laws.Tests.{cond-map}
-use Rattle.schedule.specs.Types.{BeginSteal, BeginTake, ClientStore, Drain, Entry, ThiefStep, WorkerStep}
+use Rattle.schedule.specs.Types.{BeginPut, BeginSteal, BeginTake, ClientStore, Drain, Entry, ThiefStep, WorkerStep}
 use Rattle.schedule.specs.Types.{Allowed, Check, Failed, Kind, Meaning, Passed, Refusal, Short, Who}
 use Rattle.schedule.specs.declared.entries.Meaning.the-variants.{Refused}
 use Rattle.schedule.specs.Number.{allBelow, ofBytes}
 use Rattle.schedule.specs.Check.{first}
 use Rattle.schedule.specs.Format.{wordsIn}
-use Rattle.schedule.specs.Entries.{allowedIf, checkEntries, checkOf, entryAt, entryOf}
+use Rattle.schedule.specs.Entries.{allowedIf, checkEntries, checkOf, entryAt, entryOf, kindOf, operandOf}
 use Rattle.schedule.specs.Faults.{operandAllowed}
 use Rattle.schedule.proofs.Laws.Check.{first-more, first-stops, not-both, upTo-passed}
 use Rattle.schedule.proofs.Laws.Format.{getD-words, length-wordsIn}
 
 -- ── What the check of an entry says ─────────────────────────────────────────────────────────────────────────────────────────
+
+-- an entry is not both allowed and refused
+not-allowed : {e : Entry} {r : Refusal} → Allowed e ≡ Refused r → ⊥
+not-allowed p = let clash : _≡_ {A = ℕ} 0 1 = cc in omega arith
 
 -- the check of an allowed or refused operand
 allowed-check : (allowed : Bool) (place : ℕ) (entry : Entry) → checkOf (allowedIf allowed place entry) ≡ cond allowed Passed (Failed (Who place))
@@ -45,6 +49,35 @@ entry-check thieves place (suc (suc (suc (suc (suc (suc (suc kind))))))) operand
 pub check-allowed : (m : Meaning) → checkOf m ≡ Passed → (entry : Entry) × (m ≡ Allowed entry)
 check-allowed (Allowed entry) e = (entry, refl)
 check-allowed (Refused r) e = absurd (not-both e)
+
+-- an operand that is allowed, and the entry with it
+allowed-entry : (allowed : Bool) (place : ℕ) (e : Entry) {f : Entry} → allowedIf allowed place e ≡ Allowed f → (allowed ≡ true) × (f ≡ e)
+allowed-entry true place e p = (refl, cc)
+allowed-entry false place e p = absurd (not-allowed (sym p))
+
+-- an allowed entry has the kind and the operand that it was read from
+module _ (thieves place : ℕ) where
+  -- one that takes 0 alone ..
+  zero-operand : (operand : ℕ) (e : Entry) {f : Entry} → operandOf e ≡ 0 → allowedIf (eqb operand 0) place e ≡ Allowed f
+      → (kindOf f ≡ kindOf e) × (operandOf f ≡ operand)
+  zero-operand operand e none p =
+      let found = allowed-entry (eqb operand 0) place e p in
+      (ap kindOf (found .1), ap operandOf (found .1) ∙ none ∙ sym (eqb-true operand 0 (found .0)))
+
+  -- .. and one that takes a thief
+  thief-operand : (operand : ℕ) (e : Entry) {f : Entry} → operandOf e ≡ operand → allowedIf (ltb operand thieves) place e ≡ Allowed f
+      → (kindOf f ≡ kindOf e) × (operandOf f ≡ operand)
+  thief-operand operand e same p = let found = allowed-entry (ltb operand thieves) place e p in (ap kindOf (found .1), ap operandOf (found .1) ∙ same)
+
+  pub entry-as-read : (kind operand : ℕ) (f : Entry) → entryOf thieves place kind operand ≡ Allowed f → (kindOf f ≡ kind) × (operandOf f ≡ operand)
+  entry-as-read zero operand f p = zero-operand operand Drain refl p
+  entry-as-read (suc zero) operand f p = zero-operand operand ClientStore refl p
+  entry-as-read (suc (suc zero)) operand f p = let same : f ≡ BeginPut operand = cc in (ap kindOf same, ap operandOf same)
+  entry-as-read (suc (suc (suc zero))) operand f p = zero-operand operand BeginTake refl p
+  entry-as-read (suc (suc (suc (suc zero)))) operand f p = zero-operand operand WorkerStep refl p
+  entry-as-read (suc (suc (suc (suc (suc zero))))) operand f p = thief-operand operand (BeginSteal operand) refl p
+  entry-as-read (suc (suc (suc (suc (suc (suc zero)))))) operand f p = thief-operand operand (ThiefStep operand) refl p
+  entry-as-read (suc (suc (suc (suc (suc (suc (suc kind))))))) operand f p = absurd (not-allowed (sym p))
 
 module _ (thieves : ℕ) (kinds operands : List ℕ) where
   -- the entry at a place that both arrays have

@@ -15,7 +15,7 @@ use Rattle.schedule.specs.Number.{ofBytes}
 use Rattle.schedule.specs.Check.{checkRanges, failIf, first}
 use Rattle.schedule.specs.Format.{entriesIn, kindsIn, operandsIn, sizeIn, sizesIn, wordsIn}
 use Rattle.schedule.specs.Entries.{checkEntries}
-use Rattle.schedule.specs.Reader.{answer, readFile, readingChecks}
+use Rattle.schedule.specs.Reader.{readingOf, readFile, readingChecks}
 use Rattle.schedule.proofs.Laws.Check.{failIf-passed, first-failed, first-passed}
 use Rattle.schedule.proofs.Laws.Format.{getD-words, kindsIn-part, operandsIn-part}
 
@@ -28,7 +28,7 @@ part-to-end at l = take-all (length l - at) (drop at l) (le-of-eq (length-drop a
 
 module _ (file : List ℕ) where
   -- the size at each place of the table lies at four times its place
-  pub sizeIn-at : (place : ℕ) → place < 7 → sizeIn file place ≡ ofBytes (take 4 (drop (4 * place) file))
+  pub sizeIn-at : (place : ℕ) → place < 7 → sizeIn place file ≡ ofBytes (take 4 (drop (4 * place) file))
   sizeIn-at place known = getD-words 7 place file known
 
   -- six numbers read at these places are the sizes
@@ -62,27 +62,27 @@ module _ (file : List ℕ) where
   -- which check decides, where it is not the last
 
   pub read-under-28 : length file < 28 → readFile file ≡ Refused Short
-  read-under-28 under = let none = lt-ltb (length file) 28 under in λ i. answer file (first (failIf (none i) Short ∷ drop 1 (readingChecks file)))
+  read-under-28 under = let none = lt-ltb (length file) 28 under in λ i. readingOf file (first (failIf (none i) Short ∷ drop 1 (readingChecks file)))
 
   module _ (sizes-there : 28 ≤ length file) where
     there : ltb (length file) 28 ≡ false
     there = le-ltb (length file) 28 sizes-there
 
     pub read-out-of-range : (r : Refusal) → checkRanges (sizesIn file) (entriesIn file) ≡ Failed r → readFile file ≡ Refused r
-    read-out-of-range r out = λ i. answer file (first (failIf (there i) Short ∷ out i ∷ drop 2 (readingChecks file)))
+    read-out-of-range r out = λ i. readingOf file (first (failIf (there i) Short ∷ out i ∷ drop 2 (readingChecks file)))
 
     module _ (in-range : checkRanges (sizesIn file) (entriesIn file) ≡ Passed) where
       pub read-short : (length file ≡ 28 + 5 * entriesIn file → ⊥) → readFile file ≡ Refused Short
       read-short other =
           let wrong = ne-eqb (length file) (28 + 5 * entriesIn file) other in
-          λ i. answer file (first (failIf (there i) Short ∷ in-range i ∷ failIf (not (wrong i)) Short ∷ drop 3 (readingChecks file)))
+          λ i. readingOf file (first (failIf (there i) Short ∷ in-range i ∷ failIf (not (wrong i)) Short ∷ drop 3 (readingChecks file)))
 
       pub read-faulty : length file ≡ 28 + 5 * entriesIn file → (r : Refusal)
           → checkEntries (sizesIn file .thieves) (kindsIn (entriesIn file) file) (operandsIn (entriesIn file) file) ≡ Failed r
           → readFile file ≡ Refused r
       read-faulty long r faulty =
           let whole = eq-eqb (length file) (28 + 5 * entriesIn file) long in
-          λ i. answer file (first (failIf (there i) Short ∷ in-range i ∷ failIf (not (whole i)) Short ∷ faulty i ∷ []))
+          λ i. readingOf file (first (failIf (there i) Short ∷ in-range i ∷ failIf (not (whole i)) Short ∷ faulty i ∷ []))
 
 -- What a file is that passes every check.
 pub record Readable (file : List ℕ) : Type 0 where
@@ -100,14 +100,14 @@ module _ (file : List ℕ) where
   readable-accepted p =
       let there = le-ltb (length file) 28 (omega (arith, p .long)) in
       let whole = eq-eqb (length file) (28 + 5 * entriesIn file) (p .long) in
-      λ i. answer file (first (failIf (there i) Short ∷ p .ranges i ∷ failIf (not (whole i)) Short ∷ p .each i ∷ []))
+      λ i. readingOf file (first (failIf (there i) Short ∷ p .ranges i ∷ failIf (not (whole i)) Short ∷ p .each i ∷ []))
 
   -- .. and nothing else is
   pub accepted-readable : (s : Sizes) (entries : ℕ) → readFile file ≡ Accepted s entries
       → (s ≡ sizesIn file) × ((entries ≡ entriesIn file) × Readable file)
   accepted-readable s entries e = go (first (readingChecks file)) refl e
     where
-      go : (c : Check) → first (readingChecks file) ≡ c → answer file c ≡ Accepted s entries
+      go : (c : Check) → first (readingChecks file) ≡ c → readingOf file c ≡ Accepted s entries
           → (s ≡ sizesIn file) × ((entries ≡ entriesIn file) × Readable file)
       go Passed passed told =
           let each = first-passed (readingChecks file) passed in
@@ -119,7 +119,7 @@ module _ (file : List ℕ) where
   pub refused-reading : (r : Refusal) → readFile file ≡ Refused r → (i : ℕ) × (getD (readingChecks file) i Passed ≡ Failed r)
   refused-reading r e = go (first (readingChecks file)) refl e
     where
-      go : (c : Check) → first (readingChecks file) ≡ c → answer file c ≡ Refused r
+      go : (c : Check) → first (readingChecks file) ≡ c → readingOf file c ≡ Refused r
           → (i : ℕ) × (getD (readingChecks file) i Passed ≡ Failed r)
       go Passed found told = absurd (not-both-read told)
       go (Failed q) found told = let failed = first-failed (readingChecks file) r (found ∙ cc) in (failed .0, failed .1 .1)

@@ -14,7 +14,7 @@ use Rattle.schedule.specs.Number.{allBelow, overwritten}
 use Rattle.schedule.specs.Check.{checkRanges, failIf, first}
 use Rattle.schedule.specs.Format.{fileOf, sizeBytes, wordBytes}
 use Rattle.schedule.specs.Entries.{checkEntries}
-use Rattle.schedule.specs.Writer.{answer, checkWriting, writeFile, writingChecks}
+use Rattle.schedule.specs.Writer.{writingOf, checkWriting, writeFile, writingChecks}
 use Rattle.schedule.proofs.Laws.Check.{failIf-passed, first-failed, first-passed, ranges-passed}
 use Rattle.schedule.proofs.Laws.Format.{fileOf-parts, length-sizeBytes}
 use Rattle.schedule.proofs.Laws.Overwritten.{overwritten-behind}
@@ -50,7 +50,7 @@ pub record Writable (s : Sizes) (kinds operands : List ℕ) (room : ℕ) : Type 
   pub fits : 28 + 5 * length kinds ≤ room
 
 -- nothing is both written and refused
-not-both-written : {n : ℕ} {r : Refusal} → Written n ≡ Refused r → ⊥
+pub not-both-written : {n : ℕ} {r : Refusal} → Written n ≡ Refused r → ⊥
 not-both-written e = let clash : _≡_ {A = ℕ} 0 1 = cc in omega arith
 
 module _ (s : Sizes) (kinds operands : List ℕ) (room : ℕ) where
@@ -65,7 +65,7 @@ module _ (s : Sizes) (kinds operands : List ℕ) (room : ℕ) where
   pub written-writable : (n : ℕ) → writeFile s kinds operands room ≡ Written n → (n ≡ 28 + 5 * length kinds) × Writable s kinds operands room
   written-writable n e = go (checkWriting s kinds operands room) refl e
     where
-      go : (c : Check) → checkWriting s kinds operands room ≡ c → answer (28 + 5 * length kinds) c ≡ Written n
+      go : (c : Check) → checkWriting s kinds operands room ≡ c → writingOf (28 + 5 * length kinds) c ≡ Written n
           → (n ≡ 28 + 5 * length kinds) × Writable s kinds operands room
       go Passed passed told =
           let each = first-passed (writingChecks s kinds operands room) passed in
@@ -86,7 +86,7 @@ module _ (s : Sizes) (kinds operands : List ℕ) (room : ℕ) where
       → (i : ℕ) × (getD (writingChecks s kinds operands room) i Passed ≡ Failed r)
   refused-writing r e = go (checkWriting s kinds operands room) refl e
     where
-      go : (c : Check) → checkWriting s kinds operands room ≡ c → answer (28 + 5 * length kinds) c ≡ Refused r
+      go : (c : Check) → checkWriting s kinds operands room ≡ c → writingOf (28 + 5 * length kinds) c ≡ Refused r
           → (i : ℕ) × (getD (writingChecks s kinds operands room) i Passed ≡ Failed r)
       go Passed found told = absurd (not-both-written told)
       go (Failed q) found told = let failed = first-failed (writingChecks s kinds operands room) r (found ∙ cc) in (failed .0, failed .1 .1)
@@ -97,7 +97,7 @@ few-entries s entries in-range = leb-true entries 4096 (both-right (leb 0 entrie
 
 pub passed-writable : (s : Sizes) (kinds operands : List ℕ) (room : ℕ) → checkWriting s kinds operands room ≡ Passed → Writable s kinds operands room
 passed-writable s kinds operands room passed =
-    written-writable s kinds operands room (28 + 5 * length kinds) (ap (answer (28 + 5 * length kinds)) passed) .1
+    written-writable s kinds operands room (28 + 5 * length kinds) (ap (writingOf (28 + 5 * length kinds)) passed) .1
 
 -- the sizes, the kinds and the operands, each written where the part before it ends
 pub file-written : (s : Sizes) (kinds operands : List ℕ) → allBelow 256 kinds ≡ true → length kinds ≡ length operands → (b b₁ b₂ b₃ : List ℕ)

@@ -6,7 +6,7 @@ use borrow.Author.Needs.{needs}
 use lib.ListN.{length}
 use Rattle.machine.proofs.Laws.Tests.{known}
 use Rattle.schedule.specs.Format.{fileOf}
-use Rattle.schedule.specs.Writer.{answer, left}
+use Rattle.schedule.specs.Writer.{writingOf, bufferIf}
 use Rattle.schedule.proofs.Laws.Writer.{few-entries, passed-writable}
 use Rattle.schedule.proofs.writer.write.Statement.{statement}
 use Rattle.schedule.proofs.writer.write.Tie as tie
@@ -16,7 +16,7 @@ returns c =
     let checked = c .before .before .before in
     let a = checked .before .before .before .before .args in
     let found = known (checked .check-writing .ensures) (c .before .found .given .1) in
-    (sym (ap (answer (28 + 5 * length (a .kinds .now))) found), sym (ap (left (fileOf (a .sizes) (a .kinds .now) (a .operands .now)) (a .buffer .now)) found))
+    (sym (ap (writingOf (28 + 5 * length (a .kinds .now))) found), sym (ap (bufferIf (fileOf (a .sizes) (a .kinds .now) (a .operands .now)) (a .buffer .now)) found))
 
 put-file-requires : tie.Need-put-file-requires
 put-file-requires c κs = known (c .before .before .before .check-writing .ensures) (c .before .enum-told .given .1)
@@ -42,8 +42,8 @@ returns-2 c =
     let checked = put .before .before .before .before in
     let a = checked .before .before .before .before .args in
     let found = known (checked .check-writing .ensures) (put .before .before .enum-told .given .1) in (
-      sym (ap (answer (28 + 5 * length (a .kinds .now))) found),
-      put .put-file .ensures ∙ sym (ap (left (fileOf (a .sizes) (a .kinds .now) (a .operands .now)) (a .buffer .now)) found),
+      sym (ap (writingOf (28 + 5 * length (a .kinds .now))) found),
+      put .put-file .ensures ∙ sym (ap (bufferIf (fileOf (a .sizes) (a .kinds .now) (a .operands .now)) (a .buffer .now)) found),
     )
 
 pub write-spec : {M : Type 1} → statement M
