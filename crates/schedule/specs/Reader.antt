@@ -28,6 +28,8 @@ readingOf file (Failed r) = reading.Refused r
 abbrev pub readFile : List ℕ → Reading
 readFile file = readingOf file (first (readingChecks file))
 
+-- ── Parts of the caller's bytes ─────────────────────────────────────────────────────────────────────────────────────────────
+
 -- a part of a file that is read; nothing of one that is refused
 abbrev pub partOf : Reading → (ℕ → List ℕ) → List ℕ
 partOf (Accepted s entries) part = part entries
@@ -40,3 +42,17 @@ kindPart file = partOf (readFile file) (λ entries. take entries (drop 28 file))
 -- the operands' bytes: from 28 + entries to the end
 abbrev pub operandPart : List ℕ → List ℕ
 operandPart file = partOf (readFile file) (λ entries. drop (28 + entries) file)
+
+-- A part is not a copy: it lies in the caller's memory, so many bytes behind the file's first. (A place in memory is a block and an offset in it.)
+abbrev pub behind : ℕ → ℕ × ℕ → ℕ × ℕ
+behind n place = (place .0, n + place .1)
+
+abbrev pub startOf : Reading → (ℕ → ℕ) → ℕ
+startOf (Accepted s entries) start = start entries
+startOf (reading.Refused r) start = 0
+
+abbrev pub kindStart : List ℕ → ℕ
+kindStart file = startOf (readFile file) (λ entries. 28)
+
+abbrev pub operandStart : List ℕ → ℕ
+operandStart file = startOf (readFile file) (λ entries. 28 + entries)

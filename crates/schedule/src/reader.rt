@@ -2,7 +2,7 @@ ghost use mathlib.Core.Path.{_≡_};
 ghost use Prim.Native.Nat.{_≤_};
 ghost use lib.ListN.{length};
 ghost use Rattle.schedule.specs.Format.{sizesIn};
-ghost use Rattle.schedule.specs.Reader.{kindPart, operandPart, readFile};
+ghost use Rattle.schedule.specs.Reader.{behind, kindPart, kindStart, operandPart, operandStart, readFile};
 use crate::check::Check;
 use crate::check::check_ranges;
 use crate::entries::check_part;
@@ -60,6 +60,7 @@ pub fn read(file: &[u8]) -> Reading
 // The part of a file that its kinds are, one byte each; an empty part, if the file is refused.
 pub fn kind_part(file: &[u8]) -> &[u8]
     ensures { λ r. ⌜ now r ≡ kindPart (now (file .entry)) ⌝ }
+    ensures { λ r. ⌜ r .ptr ≡ behind (kindStart (now (file .entry))) (file .entry .ptr) ⌝ }
 {
     let reading = read(file);
     let Reading::Accepted(_, entries) = reading else {
@@ -71,6 +72,7 @@ pub fn kind_part(file: &[u8]) -> &[u8]
 // The part of a file that its operands are, four bytes each, to the end; an empty part, if the file is refused.
 pub fn operand_part(file: &[u8]) -> &[u8]
     ensures { λ r. ⌜ now r ≡ operandPart (now (file .entry)) ⌝ }
+    ensures { λ r. ⌜ r .ptr ≡ behind (operandStart (now (file .entry))) (file .entry .ptr) ⌝ }
 {
     let reading = read(file);
     let Reading::Accepted(_, entries) = reading else {

@@ -3,7 +3,7 @@ use mathlib.Core.Path.{_≡_, refl, ap, sym, _∙_}
 use mathlib.Core.Bool.{false, not}
 use mathlib.Core.List.{List, [], _∷_}
 use Prim.Native.Nat.{ℕ, _+_, _-_, _*_, _≤_, _<_}
-use native.Mathlib.Nat.{add-sub-cancel-left, le-of-eq}
+use native.Mathlib.Nat.{add-sub-cancel-left, le-of-eq, zero-add}
 use native.Mathlib.Omega.{arith}
 use lib.Dec.{eqb, lit<, ltb}
 use lib.ListN.{length, drop, getD, length-drop, take}
@@ -15,7 +15,7 @@ use Rattle.schedule.specs.Number.{ofBytes}
 use Rattle.schedule.specs.Check.{checkRanges, failIf, first}
 use Rattle.schedule.specs.Format.{entriesIn, kindsIn, operandsIn, sizeIn, sizesIn, wordsIn}
 use Rattle.schedule.specs.Entries.{checkEntries}
-use Rattle.schedule.specs.Reader.{readingOf, readFile, readingChecks}
+use Rattle.schedule.specs.Reader.{behind, readFile, readingChecks, readingOf}
 use Rattle.schedule.proofs.Laws.Check.{failIf-passed, first-failed, first-passed}
 use Rattle.schedule.proofs.Laws.Format.{getD-words, kindsIn-part, operandsIn-part}
 
@@ -25,6 +25,10 @@ part-of-length at n l = ap (λ k. take k (drop at l)) (add-sub-cancel-left at n)
 
 pub part-to-end : (at : ℕ) (l : List ℕ) → take (length l - at) (drop at l) ≡ drop at l
 part-to-end at l = take-all (length l - at) (drop at l) (le-of-eq (length-drop at l))
+
+-- nothing behind a place is that place
+pub behind-none : (place : ℕ × ℕ) → behind 0 place ≡ place
+behind-none place = λ i. (place .0, zero-add (place .1) i)
 
 module _ (file : List ℕ) where
   -- the size at each place of the table lies at four times its place

@@ -5,8 +5,8 @@ use native.Mathlib.Omega.{arith}
 use borrow.Author.Needs.{needs}
 use lib.ListN.{drop, length, take}
 use Rattle.machine.proofs.Laws.Tests.{known}
-use Rattle.schedule.specs.Reader.{partOf}
-use Rattle.schedule.proofs.Laws.Reader.{accepted-holds, part-of-length}
+use Rattle.schedule.specs.Reader.{behind, partOf, startOf}
+use Rattle.schedule.proofs.Laws.Reader.{accepted-holds, behind-none, part-of-length}
 use Rattle.schedule.proofs.reader.kind_part.Statement.{statement}
 use Rattle.schedule.proofs.reader.kind_part.Tie as tie
 
@@ -18,16 +18,17 @@ within c =
 returns : tie.Need-returns
 returns c =
     let asked = c .before .before .before in
-    let file = asked .before .before .args .file .now in
-    sym (ap (λ r. partOf r (λ entries. take entries (drop 28 file))) (known (asked .read .ensures) (c .before .enum-told .given .1)))
+    let file = asked .before .before .args .file in
+    let told = known (asked .read .ensures) (c .before .enum-told .given .1) in
+    (sym (ap (λ r. partOf r (λ entries. take entries (drop 28 (file .now)))) told), sym (ap (λ r. behind (startOf r (λ entries. 28)) (file .ptr)) told ∙ behind-none (file .ptr)))
 
 returns-2 : tie.Need-returns-2
 returns-2 c =
     let asked = c .before .before .before .before in
-    let file = asked .before .before .args .file .now in
+    let file = asked .before .before .args .file in
     let entries = c .before .before .reading .given .0 .1 .0 in
-    part-of-length 28 entries file
-    ∙ sym (ap (λ r. partOf r (λ entries. take entries (drop 28 file))) (known (asked .read .ensures) (c .before .before .reading .given .1)))
+    let told = known (asked .read .ensures) (c .before .before .reading .given .1) in
+    (part-of-length 28 entries (file .now) ∙ sym (ap (λ r. partOf r (λ entries. take entries (drop 28 (file .now)))) told), sym (ap (λ r. behind (startOf r (λ entries. 28)) (file .ptr)) told))
 
 pub kind-part-spec : {M : Type 1} → statement M
 kind-part-spec =
