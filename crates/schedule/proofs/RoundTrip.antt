@@ -14,7 +14,7 @@ use Rattle.schedule.specs.Number.{allBelow}
 use Rattle.schedule.specs.Check.{checkRanges}
 use Rattle.schedule.specs.Entries.{checkEntries, entryAt}
 use Rattle.schedule.specs.Format.{decode, encode, entriesIn, fileOf, kindsIn, layout, operandsIn, sizeNumbers, sizesIn, wordsIn}
-use Rattle.schedule.specs.Reader.{kindPart, operandPart, partOf}
+use Rattle.schedule.specs.Reader.{kindPart, operandPart, partOf, startOf}
 use Rattle.schedule.specs.RoundTrip.{EntriesAsRead, EntryOfFile, Parts, PartsOfAccepted, ReadBack, ReadThenWritten, WrittenBack, WrittenThenRead}
 use Rattle.schedule.specs.Writer.{writingOf, bufferAfter, bufferIf}
 use Rattle.schedule.proofs.Laws.Reader.{Readable, accepted-readable, readable-accepted}
@@ -215,4 +215,10 @@ pub parts-of-accepted : PartsOfAccepted
 parts-of-accepted file s entries e =
     let known = accepted-readable file s entries e in
     rw (known .0, known .1 .0)
-    (record { kinds = kinds-handed file (known .1 .1); operands = operands-handed file (known .1 .1); each = entry-handed file (known .1 .1) })
+    (record {
+      kinds-start = ap (λ r. startOf r (λ n. 28)) (readable-accepted file (known .1 .1));
+      operands-start = ap (λ r. startOf r (λ n. 28 + n)) (readable-accepted file (known .1 .1));
+      kinds = kinds-handed file (known .1 .1);
+      operands = operands-handed file (known .1 .1);
+      each = entry-handed file (known .1 .1);
+    })

@@ -1,8 +1,8 @@
--- Files at their edges, as one table over the definitions: the last line of "Rehearsals" but for its trace, the example of "The program's lines" byte by byte, every size at the ends of its range and just past them, every kind with operands at
--- their limits, all other kind bytes, and files with several faults, which show the order of the checks. `proofs/Edges.antt` proves one fact: every row holds.
+-- Files at their edges, as one table over the definitions: the last line of "Rehearsals" but for its trace, the example of "The program's lines" byte by byte, every size at the ends of its range and just past them (4,096 entries are found in
+-- range, not read), every kind with operands that are allowed and that are not, all other kind bytes, and files with several faults, which show the order of the checks. `proofs/Edges.antt` proves one fact: every row holds.
 use mathlib.Core.Bool.{Bool, true, false, _&&_}
 use mathlib.Core.List.{List, [], _∷_, _++_, map}
-use Prim.Native.Nat.{ℕ}
+use Prim.Native.Nat.{ℕ, _+_}
 use lib.Dec.{eqb}
 use lib.ListN.{length, replicate, take}
 use Rattle.machine.specs.Lists.{upFrom}
@@ -15,13 +15,13 @@ use Rattle.schedule.specs.Number.{littleEndian}
 use Rattle.schedule.specs.Refusal.{numberOf, placeOf}
 use Rattle.schedule.specs.Format.{sizeNumbers, wordBytes, wordsIn}
 use Rattle.schedule.specs.Entries.{entryAt, entryOf, kindOf, operandOf}
-use Rattle.schedule.specs.Reader.{kindPart, operandPart, readFile}
+use Rattle.schedule.specs.Reader.{kindPart, kindStart, operandPart, operandStart, readFile}
 use Rattle.schedule.specs.Writer.{bufferAfter, writeFile}
 
 -- ── Rows ────────────────────────────────────────────────────────────────────────────────────────────────────────────────────
 
 pub data Row : Type 0 where
-  -- a file that is read: its sizes, its kinds' bytes, one for each entry, and its operands' bytes
+  -- a file that is read: its sizes, its kinds' bytes, one for each entry, and its operands' bytes, which lie where they should
   accepts : (file : List ℕ) → Sizes → (kinds operands : List ℕ) → Row
   -- a file that is refused, with number and place; no part of it is handed back
   refuses : (file : List ℕ) (number place : ℕ) → Row
@@ -81,8 +81,18 @@ abbrev pub before : ℕ → List ℕ
 before room = replicate room 170
 
 abbrev pub holds : Row → Bool
-holds (accepts file s kinds operands) = isRead s (length kinds) (readFile file) && equal (kindPart file) kinds && equal (operandPart file) operands
-holds (refuses file number place) = isNotRead number place (readFile file) && equal (kindPart file) [] && equal (operandPart file) []
+holds (accepts file s kinds operands) =
+    isRead s (length kinds) (readFile file)
+    && equal (kindPart file) kinds
+    && equal (operandPart file) operands
+    && eqb (kindStart file) 28
+    && eqb (operandStart file) (28 + length kinds)
+holds (refuses file number place) =
+    isNotRead number place (readFile file)
+    && equal (kindPart file) []
+    && equal (operandPart file) []
+    && eqb (kindStart file) 0
+    && eqb (operandStart file) 0
 holds (means thieves kind operand e) =
     isEntry e (entryOf thieves 0 kind operand) && isEntry e (entryAt thieves (kind ∷ []) (wordsIn (littleEndian 4 operand)) 0)
 holds (noEntry thieves kinds operands at number place) = isNoEntry number place (entryAt thieves kinds (wordsIn operands) at)
@@ -97,14 +107,14 @@ abbrev pub sized : ℕ → ℕ → ℕ → ℕ → ℕ → ℕ → Sizes
 sized slots buffer spacing margin thieves start =
     record { slots = slots; buffer = buffer; spacing = spacing; margin = margin; thieves = thieves; start = start }
 
--- the sizes of the example, and the same with more thieves
+-- the sizes of the example, and the same with another number of thieves
 abbrev pub example : Sizes
 example = sized 4 1 0 1 1 0
 
 abbrev pub withThieves : ℕ → Sizes
 withThieves thieves = sized 4 1 0 1 thieves 0
 
--- Files made with the encoder. Byte order shows in those written out below: the example, and one with sizes of several bytes.
+-- Files made with the encoder. Byte order shows where bytes are written out: in the example, in the file of six different sizes, and where an operand is written whose bytes are 1, 2, 3 and 4.
 abbrev pub header : Sizes → ℕ → List ℕ
 header s entries = wordBytes (sizeNumbers s entries)
 
@@ -121,11 +131,12 @@ exampleFile =
 abbrev pub exampleOperands : List ℕ
 exampleOperands = 7 ∷ 0 ∷ 0 ∷ 0 ∷ 0 ∷ 0 ∷ []
 
-abbrev pub large : Sizes
-large = sized 256 33 2 17 8 67305985
+-- six different sizes, so that none can stand for another
+abbrev pub different : Sizes
+different = sized 256 33 2 17 8 67305985
 
-abbrev pub largeFile : List ℕ
-largeFile = 0 ∷ 1 ∷ 0 ∷ 0 ∷ 33 ∷ 0 ∷ 0 ∷ 0 ∷ 2 ∷ 0 ∷ 0 ∷ 0 ∷ 17 ∷ 0 ∷ 0 ∷ 0 ∷ 8 ∷ 0 ∷ 0 ∷ 0 ∷ 1 ∷ 2 ∷ 3 ∷ 4 ∷ 0 ∷ 0 ∷ 0 ∷ 0 ∷ []
+abbrev pub differentFile : List ℕ
+differentFile = 0 ∷ 1 ∷ 0 ∷ 0 ∷ 33 ∷ 0 ∷ 0 ∷ 0 ∷ 2 ∷ 0 ∷ 0 ∷ 0 ∷ 17 ∷ 0 ∷ 0 ∷ 0 ∷ 8 ∷ 0 ∷ 0 ∷ 0 ∷ 1 ∷ 2 ∷ 3 ∷ 4 ∷ 0 ∷ 0 ∷ 0 ∷ 0 ∷ []
 
 -- ── The table ───────────────────────────────────────────────────────────────────────────────────────────────────────────────
 
@@ -133,7 +144,7 @@ largeFile = 0 ∷ 1 ∷ 0 ∷ 0 ∷ 33 ∷ 0 ∷ 0 ∷ 0 ∷ 2 ∷ 0 ∷ 0 ∷ 0
 abbrev pub alone : Sizes → Row
 alone s = accepts (header s 0) s [] []
 
--- a size out of its range is told, whether the file has the right length or not
+-- a size out of its range is told, whether the file has the right length or not (where the entries are too many, neither has)
 abbrev pub outOfRange : Sizes → ℕ → ℕ → List Row
 outOfRange s entries place = refuses (header s entries) 1 place ∷ refuses (header s entries ++ (0 ∷ [])) 1 place ∷ []
 
@@ -161,7 +172,7 @@ sizes =
     -- no size limits another: a margin that is too small, a spacing and a margin beyond the buffer
     ∷ alone (sized 4 64 0 1 1 0)
     ∷ alone (sized 2 1 63 64 1 0)
-    ∷ accepts largeFile large [] []
+    ∷ accepts differentFile different [] []
     ∷ outOfRange (sized 1 1 0 0 1 0) 0 0
     ++ outOfRange (sized 257 1 0 0 1 0) 0 0
     ++ outOfRange (sized 2 0 0 0 1 0) 0 1
@@ -176,6 +187,8 @@ sizes =
     -- of several the lowest place
     ++ outOfRange (sized 2 1 64 65 0 0) 4097 2
     ++ outOfRange (sized 2 1 0 0 9 0) 4097 4
+    ++ outOfRange (sized 1 0 64 65 0 2147483648) 4097 0
+    ++ outOfRange (sized 2 1 0 0 1 2147483648) 4097 5
 
 abbrev pub entries : List Row
 entries =
@@ -193,7 +206,8 @@ entries =
     (0 ∷ 1 ∷ 2 ∷ 3 ∷ 4 ∷ 5 ∷ 6 ∷ [])
     (wordBytes (0 ∷ 0 ∷ 4294967295 ∷ 0 ∷ 0 ∷ 0 ∷ 1 ∷ []))
     ∷ accepts (fileWith (withThieves 8) (5 ∷ 6 ∷ []) (7 ∷ 0 ∷ [])) (withThieves 8) (5 ∷ 6 ∷ []) (7 ∷ 0 ∷ 0 ∷ 0 ∷ 0 ∷ 0 ∷ 0 ∷ 0 ∷ [])
-    -- an operand of which only the lowest byte would be allowed
+    ∷ accepts (fileWith example (5 ∷ 6 ∷ []) (0 ∷ 0 ∷ [])) example (5 ∷ 6 ∷ []) (replicate 8 0)
+    -- an operand just past its limit, or one of which only the lowest byte would be allowed
     ∷ refusesEntry 0 1 4
     ∷ refusesEntry 0 256 4
     ∷ refusesEntry 1 16777216 4
@@ -203,7 +217,7 @@ entries =
     ∷ refusesEntry 5 256 4
     ∷ refusesEntry 6 2 4
     ∷ refusesEntry 6 16777216 4
-    ∷ refuses (fileWith (withThieves 8) (5 ∷ []) (8 ∷ [])) 4 0
+    ∷ refuses (fileWith (withThieves 8) (0 ∷ 2 ∷ 5 ∷ 6 ∷ 5 ∷ []) (0 ∷ 9 ∷ 7 ∷ 8 ∷ 8 ∷ [])) 4 3
     -- within an entry the kind first; of the entries the first faulty one; the length before all of them
     ∷ refusesEntry 7 9 3
     ∷ refuses (fileWith (withThieves 2) (0 ∷ 255 ∷ []) (0 ∷ 0 ∷ [])) 3 1
@@ -220,7 +234,7 @@ entries =
 abbrev pub writings : List Row
 writings =
     writes example (2 ∷ 4 ∷ 4 ∷ 4 ∷ 0 ∷ 4 ∷ []) exampleOperands 60 (exampleFile ++ before 2) 58
-    ∷ writes large [] [] 29 (largeFile ++ before 1) 28
+    ∷ writes different [] [] 29 (differentFile ++ before 1) 28
     ∷ writes example (2 ∷ []) (67305985 ∷ []) 33 (header example 1 ++ (2 ∷ 1 ∷ 2 ∷ 3 ∷ 4 ∷ [])) 33
     -- in their order: the sizes, lowest place first, the lengths, the first faulty entry with its kind first, the room
     ∷ declines (sized 4 65 0 1 9 0) (7 ∷ []) [] 27 1 1

@@ -50,8 +50,8 @@ meanings thieves place operand =
 abbrev pub entryOf : ℕ → ℕ → ℕ → ℕ → Meaning
 entryOf thieves place kind operand = getD (meanings thieves place operand) kind (meaning.Refused (Kind place))
 
--- the entry at a place of two parallel arrays. If one of them ends before it, it is SHORT; 01 has no number for this, and no file and no
--- writing is refused by it.
+-- the entry at a place of two parallel arrays. If one of them ends before it, it is SHORT; 01 does not speak of
+-- this case, and no file and no writing is refused by it.
 abbrev pub entryAt : ℕ → List ℕ → List ℕ → ℕ → Meaning
 entryAt thieves kinds operands at =
     cond (ltb at (length kinds) && ltb at (length operands)) (entryOf thieves at (getD kinds at 0) (getD operands at 0)) (meaning.Refused Short)

@@ -1,5 +1,5 @@
 -- What is refused, and for what. Renders 1 to 4, of "The numbers", one by one and without their order, and 8 for the writer. `Reader` and `Writer` say which of several faults is told; here stands that what is told is a
--- fault, and that what has a fault is refused. Kinds and operands are said a second time here, in other words; ranges and layout are those of `Check` and `Format`. Proved in `proofs/Faults.antt`.
+-- fault, that what has a fault is refused, and that a refused writing leaves the buffer as it was. Kinds and operands are said a second time here, in other words; ranges and layout are those of `Check` and `Format`. Proved in `proofs/Faults.antt`.
 use mathlib.Core.Path.{_≡_}
 use mathlib.Core.Bool.{Bool, true, false, cond, not, _&&_, _||_}
 use mathlib.Core.List.{List}

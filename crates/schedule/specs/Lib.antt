@@ -8,9 +8,9 @@
 -- kinds, operands; KIND and WHO         Entries
 -- reading: the order of its checks      Reader
 -- writing: the order of its checks      Writer
--- what each refusal says, in plain terms Faults
+-- what is refused, and for what         Faults
 -- reading what was written, and back    RoundTrip
--- files at every edge, as a table       Edges
+-- files at their edges, as a table      Edges
 pub mod Types
 pub mod Number
 pub mod Refusal

@@ -1,5 +1,4 @@
--- Reading a file. Renders the line "Order" of "The numbers" up to the entries (8 is for those who are lent a buffer), and, of "Parts", the
--- sentence on the operand array.
+-- Reading a file. Renders the line "Order" of "The numbers" up to the entries (8 is for whoever lends a buffer); and, of "Parts" and "Required forms by place", the sentences on the operand array. 01 has no kind part; it is made likewise.
 use mathlib.Core.Bool.{not}
 use mathlib.Core.List.{List, [], _∷_}
 use Prim.Native.Nat.{ℕ, _+_, _*_}
@@ -47,6 +46,7 @@ operandPart file = partOf (readFile file) (λ entries. drop (28 + entries) file)
 abbrev pub behind : ℕ → ℕ × ℕ → ℕ × ℕ
 behind n place = (place .0, n + place .1)
 
+-- where the part of an accepted file starts; the empty part of a refused one lies at the file's first byte, which 01 leaves open
 abbrev pub startOf : Reading → (ℕ → ℕ) → ℕ
 startOf (Accepted s entries) start = start entries
 startOf (reading.Refused r) start = 0

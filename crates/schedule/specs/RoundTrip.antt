@@ -1,15 +1,15 @@
--- Files that are read and written back, and the other way round; and the parts and the entries of an accepted file. Nothing of this is a sentence of 01: it follows from "The schedule file", and joins reader and writer.
+-- Files that are read and written back, and the other way round; and the parts and the entries of an accepted file. But for the operand part, nothing of this is a sentence of 01: it follows from "The schedule file", and joins reader and writer.
 -- Proved in `proofs/RoundTrip.antt`.
 use mathlib.Core.Path.{_≡_}
 use mathlib.Core.Bool.{true}
 use mathlib.Core.List.{List, _++_}
-use Prim.Native.Nat.{ℕ, _≤_, _<_}
+use Prim.Native.Nat.{ℕ, _+_, _≤_, _<_}
 use lib.ListN.{length, drop, getD, take}
 use Rattle.schedule.specs.Types.{Accepted, Allowed, Entry, Sizes, Written}
 use Rattle.schedule.specs.Number.{allBelow}
 use Rattle.schedule.specs.Entries.{entryAt, entryOf, kindOf, operandOf}
 use Rattle.schedule.specs.Format.{fileOf, kindsIn, operandsIn, wordsIn}
-use Rattle.schedule.specs.Reader.{kindPart, operandPart, readFile}
+use Rattle.schedule.specs.Reader.{kindPart, kindStart, operandPart, operandStart, readFile}
 use Rattle.schedule.specs.Writer.{bufferAfter, writeFile}
 
 -- an accepted file, of bytes, is the file of its sizes and arrays, and so it is written back, byte for byte, into any buffer that it fits in
@@ -49,8 +49,10 @@ pub record EntryOfFile (file : List ℕ) (s : Sizes) (entries at : ℕ) : Type 0
   pub kind : kindOf entry ≡ getD (kindsIn entries file) at 0
   pub operand : operandOf entry ≡ getD (operandsIn entries file) at 0
 
--- the two parts that are handed back hold the two arrays, and all entries are there
+-- the two parts that are handed back lie where they should and hold the two arrays, and every entry is allowed and stands as in the file
 pub record Parts (file : List ℕ) (s : Sizes) (entries : ℕ) : Type 0 where
+  pub kinds-start : kindStart file ≡ 28
+  pub operands-start : operandStart file ≡ 28 + entries
   pub kinds : kindPart file ≡ kindsIn entries file
   pub operands : wordsIn (operandPart file) ≡ operandsIn entries file
   pub each : (at : ℕ) → at < entries → EntryOfFile file s entries at
