@@ -3,14 +3,14 @@
 use mathlib.Core.Path.{_≡_}
 use mathlib.Core.Bool.{Bool, true, false, cond, not, _&&_, _||_}
 use mathlib.Core.List.{List}
-use Prim.Native.Nat.{ℕ, _+_, _*_}
+use Prim.Native.Nat.{ℕ}
 use lib.Dec.{eqb, leb, ltb}
 use lib.ListN.{length, getD}
 use Rattle.schedule.specs.Types.{Accepted, Kind, Refusal, Room, Short, Size, Sizes, Who, Written}
 use Rattle.schedule.specs.declared.reader.Reading.the-variants as reading
 use Rattle.schedule.specs.declared.writer.Writing.the-variants as writing
 use Rattle.schedule.specs.Check.{sizesKept}
-use Rattle.schedule.specs.Format.{entriesIn, kindsIn, operandsIn, sizesIn}
+use Rattle.schedule.specs.Format.{entriesIn, fileLength, kindsIn, operandsIn, sizesIn}
 use Rattle.schedule.specs.Reader.{readFile}
 use Rattle.schedule.specs.Writer.{bufferAfter, writeFile}
 
@@ -31,13 +31,13 @@ hasFault s entries kinds operands wrongLength noRoom Room = noRoom
 abbrev pub fileHas : List ℕ → Refusal → Bool
 fileHas file =
     hasFault (sizesIn file) (entriesIn file) (kindsIn (entriesIn file) file) (operandsIn (entriesIn file) file)
-    (ltb (length file) 28 || not (eqb (length file) (28 + 5 * entriesIn file)))
+    (ltb (length file) 28 || not (eqb (length file) (fileLength (entriesIn file))))
     false
 
 -- what a writer is handed: SHORT is arrays of different lengths, ROOM a buffer that the file does not fit in
 abbrev pub writingHas : Sizes → List ℕ → List ℕ → ℕ → Refusal → Bool
 writingHas s kinds operands room =
-    hasFault s (length kinds) kinds operands (not (eqb (length kinds) (length operands))) (ltb room (28 + 5 * length kinds))
+    hasFault s (length kinds) kinds operands (not (eqb (length kinds) (length operands))) (ltb room (fileLength (length kinds)))
 
 -- the reader refuses for a fault that the file has, and accepts no file that has one
 abbrev pub ReaderRefusesFaults : Type 0

@@ -1,7 +1,7 @@
--- The layout of a schedule file. Renders the first paragraph of "The schedule file". `layout` is the one description of the format: the writer encodes by it, and the reader decodes by it. The lengths 28 and 28 + 5 × entries, which
--- 01 gives as numbers, stand as numbers in `Reader` and `Writer`; `RoundTrip` ties them to the layout.
+-- The layout of a schedule file. Renders the first paragraph of "The schedule file". `layout` is the one description of the format: the writer encodes by it, and the reader decodes by it. The lengths that 01 gives as
+-- numbers stand as numbers, `fileLength` here and 28 in `Reader`; `RoundTrip` ties them to the layout.
 use mathlib.Core.List.{List, [], _∷_, _++_}
-use Prim.Native.Nat.{ℕ, _+_, _/_}
+use Prim.Native.Nat.{ℕ, _+_, _*_, _/_}
 use lib.ListN.{length, drop, getD, replicate, take}
 use Rattle.schedule.specs.Types.{Sizes}
 use Rattle.schedule.specs.Number.{littleEndian, ofBytes}
@@ -10,6 +10,10 @@ use Rattle.schedule.specs.Number.{littleEndian, ofBytes}
 -- operand of four for each entry.
 abbrev pub layout : ℕ → List ℕ
 layout entries = replicate 7 4 ++ (replicate entries 1 ++ replicate entries 4)
+
+-- how many bytes a file of so many entries has
+abbrev pub fileLength : ℕ → ℕ
+fileLength entries = 28 + 5 * entries
 
 -- numbers one after the other, each in as many bytes as the layout gives it
 abbrev pub encode : List ℕ → List ℕ → List ℕ

@@ -1,21 +1,21 @@
 -- Reading a file. Renders the line "Order" of "The numbers" up to the entries (8 is for whoever lends a buffer); and, of "Parts" and "Required forms by place", the sentences on the operand array. 01 has no kind part; it is made likewise.
 use mathlib.Core.Bool.{not}
 use mathlib.Core.List.{List, [], _∷_}
-use Prim.Native.Nat.{ℕ, _+_, _*_}
+use Prim.Native.Nat.{ℕ, _+_}
 use lib.Dec.{eqb, ltb}
 use lib.ListN.{length, drop, take}
 use Rattle.schedule.specs.Types.{Accepted, Check, Failed, Passed, Reading, Short}
 use Rattle.schedule.specs.declared.reader.Reading.the-variants as reading
 use Rattle.schedule.specs.Check.{checkRanges, failIf, first}
 use Rattle.schedule.specs.Entries.{checkEntries}
-use Rattle.schedule.specs.Format.{entriesIn, kindsIn, operandsIn, sizesIn}
+use Rattle.schedule.specs.Format.{entriesIn, fileLength, kindsIn, operandsIn, sizesIn}
 
 -- the checks of a file, in their order
 abbrev pub readingChecks : List ℕ → List Check
 readingChecks file =
     failIf (ltb (length file) 28) Short
     ∷ checkRanges (sizesIn file) (entriesIn file)
-    ∷ failIf (not (eqb (length file) (28 + 5 * entriesIn file))) Short
+    ∷ failIf (not (eqb (length file) (fileLength (entriesIn file)))) Short
     ∷ checkEntries (sizesIn file .thieves) (kindsIn (entriesIn file) file) (operandsIn (entriesIn file) file)
     ∷ []
 

@@ -1,14 +1,14 @@
 -- Writing a file. Renders the last two sentences of "The numbers": what the file writer takes, and what it refuses, in that order.
 use mathlib.Core.Bool.{not}
 use mathlib.Core.List.{List, [], _∷_}
-use Prim.Native.Nat.{ℕ, _+_, _*_}
+use Prim.Native.Nat.{ℕ}
 use lib.Dec.{eqb, ltb}
 use lib.ListN.{length}
 use Rattle.schedule.specs.Types.{Check, Failed, Passed, Room, Short, Sizes, Writing, Written}
 use Rattle.schedule.specs.declared.writer.Writing.the-variants as writing
 use Rattle.schedule.specs.Check.{checkRanges, failIf, first}
 use Rattle.schedule.specs.Entries.{checkEntries}
-use Rattle.schedule.specs.Format.{fileOf}
+use Rattle.schedule.specs.Format.{fileLength, fileOf}
 use Rattle.schedule.specs.Number.{overwritten}
 
 -- the checks of what is to be written into a buffer of so many bytes, in their order
@@ -17,7 +17,7 @@ writingChecks s kinds operands room =
     checkRanges s (length kinds)
     ∷ failIf (not (eqb (length kinds) (length operands))) Short
     ∷ checkEntries (s .thieves) kinds operands
-    ∷ failIf (ltb room (28 + 5 * length kinds)) Room
+    ∷ failIf (ltb room (fileLength (length kinds))) Room
     ∷ []
 
 abbrev pub checkWriting : Sizes → List ℕ → List ℕ → ℕ → Check
@@ -29,7 +29,7 @@ writingOf n (Failed r) = writing.Refused r
 
 -- what writing comes to: how many bytes the file has, or the refusal
 abbrev pub writeFile : Sizes → List ℕ → List ℕ → ℕ → Writing
-writeFile s kinds operands room = writingOf (28 + 5 * length kinds) (checkWriting s kinds operands room)
+writeFile s kinds operands room = writingOf (fileLength (length kinds)) (checkWriting s kinds operands room)
 
 abbrev pub bufferIf : List ℕ → List ℕ → Check → List ℕ
 bufferIf file buffer Passed = overwritten 0 file buffer

@@ -4,6 +4,11 @@ ghost use Prim.Native.Nat.{_+_, _≤_};
 ghost use lib.ListN.{length, drop, take};
 ghost use Rattle.schedule.specs.Number.{littleEndian, ofBytes, overwritten};
 
+// How many bytes the seven sizes have, and how many each entry has: a kind and an operand.
+pub(crate) const SIZES_BYTES: usize = 28;
+
+pub(crate) const ENTRY_BYTES: usize = 5;
+
 // The number that four bytes are, the least significant of them first.
 fn word(first: u8, second: u8, third: u8, fourth: u8) -> u32
     ensures { λ r. ⌜ r ≡ ofBytes (first ∷ second ∷ third ∷ fourth ∷ []) ⌝ }

@@ -6,6 +6,8 @@ ghost use Rattle.schedule.specs.Reader.{behind, kindPart, kindStart, ope
 use crate::check::Check;
 use crate::check::check_ranges;
 use crate::entries::check_part;
+use crate::number::ENTRY_BYTES;
+use crate::number::SIZES_BYTES;
 use crate::number::word_at;
 use crate::refusal::Refusal;
 use machine::Sizes;
@@ -37,7 +39,7 @@ fn sizes_in(file: &[u8]) -> Sizes
 pub fn read(file: &[u8]) -> Reading
     ensures { λ r. ⌜ r ≡ readFile (now (file .entry)) ⌝ }
 {
-    if file.len() < 28 {
+    if file.len() < SIZES_BYTES {
         return Reading::Refused(Refusal::Short);
     }
     let sizes = sizes_in(file);
@@ -46,11 +48,15 @@ pub fn read(file: &[u8]) -> Reading
     if let Check::Failed(refusal) = ranges {
         return Reading::Refused(refusal);
     }
-    if file.len() != 28 + 5 * entries {
+    if file.len() != SIZES_BYTES + ENTRY_BYTES * entries {
         return Reading::Refused(Refusal::Short);
     }
-    let operands = 28 + entries;
-    let steps = check_part(sizes.thieves, &file[28..operands], &file[operands..]);
+    let operands = SIZES_BYTES + entries;
+    let steps = check_part(
+        sizes.thieves,
+        &file[SIZES_BYTES..operands],
+        &file[operands..],
+    );
     match steps {
         Check::Passed => Reading::Accepted(sizes, entries),
         Check::Failed(refusal) => Reading::Refused(refusal),
@@ -66,7 +72,7 @@ pub fn kind_part(file: &[u8]) -> &[u8]
     let Reading::Accepted(_, entries) = reading else {
         return &file[..0];
     };
-    &file[28..28 + entries]
+    &file[SIZES_BYTES..SIZES_BYTES + entries]
 }
 
 // The part of a file that its operands are, four bytes each, to the end; an empty part, if the file is refused.
@@ -78,5 +84,5 @@ pub fn operand_part(file: &[u8]) -> &[u8]
     let Reading::Accepted(_, entries) = reading else {
         return &file[..0];
     };
-    &file[28 + entries..]
+    &file[SIZES_BYTES + entries..]
 }

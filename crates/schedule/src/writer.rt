@@ -8,6 +8,8 @@ ghost use Rattle.schedule.specs.Writer.{bufferAfter, checkWriting, write
 use crate::check::Check;
 use crate::check::check_ranges;
 use crate::entries::check_arrays;
+use crate::number::ENTRY_BYTES;
+use crate::number::SIZES_BYTES;
 use crate::number::put_word;
 use crate::refusal::Refusal;
 use machine::Sizes;
@@ -35,7 +37,7 @@ fn check_writing(sizes: Sizes, kinds: &[u8], operands: &[u32], room: usize) -> C
     if let Check::Failed(fault) = steps {
         return Check::Failed(fault);
     }
-    if room < 28 + 5 * kinds.len() {
+    if room < SIZES_BYTES + ENTRY_BYTES * kinds.len() {
         return Check::Failed(Refusal::Room);
     }
     Check::Passed
@@ -87,8 +89,8 @@ fn put_file(buffer: &mut [u8], sizes: Sizes, kinds: &[u8], operands: &[u32])
 {
     let entries = kinds.len();
     put_sizes(buffer, sizes, entries);
-    put_kinds(buffer, 28, kinds);
-    put_operands(buffer, 28 + entries, operands);
+    put_kinds(buffer, SIZES_BYTES, kinds);
+    put_operands(buffer, SIZES_BYTES + entries, operands);
 }
 
 // Writes the file of six sizes and two parallel arrays, kinds and operands, into a buffer. Nothing is written before everything
@@ -102,5 +104,5 @@ pub fn write(sizes: Sizes, kinds: &[u8], operands: &[u32], buffer: &mut [u8]) ->
         return Writing::Refused(refusal);
     }
     put_file(buffer, sizes, kinds, operands);
-    Writing::Written(28 + 5 * kinds.len())
+    Writing::Written(SIZES_BYTES + ENTRY_BYTES * kinds.len())
 }
