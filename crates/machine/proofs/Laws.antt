@@ -1,6 +1,4 @@
 pub mod Lists
-pub mod Sizes
-pub mod Tests
 pub mod Sums
 pub mod StoreBuffer
 pub mod PlainQueue

@@ -5,6 +5,7 @@ use mathlib.Core.List.{List, [], _∷_, map, map-append}
 use Prim.Native.Nat.{ℕ}
 use lib.Dec.{eqb}
 use lib.ListN.{List·getD-map, getD, replicate}
+use Rattle.terms.proofs.Laws.Tests.{cond-map}
 use Rattle.machine.specs.Types.{Entry, Drain, ClientStore, BeginPut, BeginTake, WorkerStep, BeginSteal, ThiefStep, Done, Index, Machine, Nobody, TheThief, Outcome, Moved, Stored, Task, Abort, Sizes, Store, StoreBuffer, StoreKind, Client, Tail, Slot, Thief, ThiefCall, StealLock, StealLoadHead, StealRaiseHead, StealLoadTail, StealLoadSlot, StealUnlockTask, StealRestoreHead, StealUnlockAbort, WorkerCall, PutLoadHead, PutStoreSlot, PutStoreTail, TakeStoreTail, TakeLoadHead, TakeLoadSlot, TakeLock, TakeReloadHead, TakeRestoreTail, TakeUnlockEmpty, TakeUnlockTask, TakeLoadLastSlot}
 use Rattle.machine.specs.Index.{next, previous, slotOf}
 use Rattle.machine.specs.StoreBuffer.{clientStore, dropOldest, oldest, pending, slotAfter, slotsAfter, slotStore, tailAfter, tailStore}
@@ -16,7 +17,6 @@ use Rattle.machine.specs.Thief.{marginKept, stepOfThief, thiefRuns}
 use Rattle.machine.specs.Obey.{drain, obey, obeyInRange, outcomesOf, thiefIsThere}
 use Rattle.machine.specs.Renumbering.{BlindToNumbers, renumberEntry, renumberOutcome}
 use Rattle.machine.proofs.Laws.Lists.{all-map, foldl-map, map-drop, map-replicate, map-set, map-take}
-use Rattle.machine.proofs.Laws.Tests.{cond-map}
 
 -- the thieves replaced
 abbrev withThieves : List Thief → Machine → Machine

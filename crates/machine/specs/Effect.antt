@@ -5,8 +5,8 @@ use mathlib.Core.List.{List, [], _∷_, _++_, map}
 use Prim.Native.Nat.{ℕ}
 use lib.Dec.{eqb}
 use lib.Signed.{leZ}
+use Rattle.terms.specs.Outcome.{isAnswer, isRefusal, numberOf}
 use Rattle.machine.specs.Types.{Entry, Drain, ClientStore, BeginPut, BeginTake, WorkerStep, BeginSteal, ThiefStep, Machine, Outcome, Full, Sizes, ThiefCall, StealLock, StealLoadHead, StealRaiseHead, StealLoadTail, StealLoadSlot, StealUnlockTask, StealRestoreHead, StealUnlockAbort, WorkerCall, PutLoadHead, PutStoreSlot, PutStoreTail, TakeStoreTail, TakeLoadHead, TakeLoadSlot, TakeLock, TakeReloadHead, TakeRestoreTail, TakeUnlockEmpty, TakeUnlockTask, TakeLoadLastSlot}
-use Rattle.machine.specs.Outcome.{isAnswer, isRefusal, numberOf}
 use Rattle.machine.specs.Machine.{fresh, thiefCall, workerTail}
 use Rattle.machine.specs.Thief.{marginKept}
 use Rattle.machine.specs.Obey.{obey}

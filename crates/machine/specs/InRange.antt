@@ -1,9 +1,9 @@
 -- When a machine is in range. Renders the list, in "Parts", of what an operation tests before all else.
 use mathlib.Core.Bool.{Bool, true, _&&_}
 use lib.Dec.{leb}
+use Rattle.terms.specs.Sizes.{sizesInRange}
 use Rattle.machine.specs.Types.{Machine, StoreKind, Client, Tail, Slot, ThiefCall, StealLock, StealLoadHead, StealRaiseHead, StealLoadTail, StealLoadSlot, StealUnlockTask, StealRestoreHead, StealUnlockAbort, WorkerCall, PutLoadHead, PutStoreSlot, PutStoreTail, TakeStoreTail, TakeLoadHead, TakeLoadSlot, TakeLock, TakeReloadHead, TakeRestoreTail, TakeUnlockEmpty, TakeUnlockTask, TakeLoadLastSlot}
 use Rattle.machine.specs.Lists.{all}
-use Rattle.machine.specs.Sizes.{sizesInRange}
 use Rattle.machine.specs.Index.{indexInRange, slotIndexInRange}
 use Rattle.machine.specs.StoreBuffer.{pending}
 

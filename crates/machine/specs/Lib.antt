@@ -2,8 +2,8 @@
 -- and `Linearizes` in `Linearizable` say what is claimed of a list of entries, `obey` in `Obey` what an entry does, `respond` in `PlainQueue`
 -- what the plain queue does, `effect` in `Effect` when it is told.
 --
--- sizes and margins                 Sizes
--- outcomes and their numbers        Outcome
+-- sizes and margins                 Sizes, of `terms`
+-- outcomes and their numbers        Outcome, of `terms`
 -- slots, pending stores, loads      Index, StoreBuffer, Machine
 -- what must be in range             InRange
 -- put, take, client store, spacing  Worker
@@ -15,8 +15,6 @@
 -- M1 to M9, and more                Rehearsals
 pub mod Types
 pub mod Lists
-pub mod Sizes
-pub mod Outcome
 pub mod Index
 pub mod StoreBuffer
 pub mod Update

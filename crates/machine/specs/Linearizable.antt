@@ -7,10 +7,10 @@ use mathlib.Core.List.{List, [], _∷_, _++_, map}
 use Prim.Native.Nat.{ℕ, _+_, _≤_}
 use lib.IntN.{ℤ, pos, negsuc, _+ℤ_, _-ℤ_}
 use lib.ListN.{length, replicate}
+use Rattle.terms.specs.Sizes.{enoughMargin, sizesInRange}
+use Rattle.terms.specs.Outcome.{isAnswer}
 use Rattle.machine.specs.Types.{Entry, Machine, Outcome, Moved, Place, Early, Wait, Stored, Task, Empty, Abort, Full, End, Sizes, ThiefCall, StealLock, StealLoadHead, StealRaiseHead, StealLoadTail, StealLoadSlot, StealUnlockTask, StealRestoreHead, StealUnlockAbort, WorkerCall, PutLoadHead, PutStoreSlot, PutStoreTail, TakeStoreTail, TakeLoadHead, TakeLoadSlot, TakeLock, TakeReloadHead, TakeRestoreTail, TakeUnlockEmpty, TakeUnlockTask, TakeLoadLastSlot}
 use Rattle.machine.specs.Lists.{all, gather, occurrences, upTo}
-use Rattle.machine.specs.Sizes.{enoughMargin, sizesInRange}
-use Rattle.machine.specs.Outcome.{isAnswer}
 use Rattle.machine.specs.Machine.{thiefCall, memoryLoad, workerLoad, workerTail}
 use Rattle.machine.specs.PlainQueue.{StoredTask, withinLimits}
 use Rattle.machine.specs.Effect.{Begun, nothing, aPut, aTake, aSteal, Event, Party, worker, thief, PartyCall, Watch, events, watchFresh, watched}

@@ -8,10 +8,10 @@ use Prim.Native.Nat.{ℕ, _-_}
 use lib.Dec.{eqb, ltb}
 use lib.IntN.{ℤ, pos, negsuc}
 use lib.ListN.{getD, length, replicate}
+use Rattle.terms.specs.Sizes.{neededMargin}
+use Rattle.terms.specs.Outcome.{numberOf, valueOf}
 use Rattle.machine.specs.Types.{Entry, Drain, ClientStore, BeginPut, BeginTake, WorkerStep, BeginSteal, ThiefStep, Machine, Outcome, Moved, Place, Early, Wait, Stored, Task, Empty, Abort, Full, End, Sizes, PutStoreSlot, PutStoreTail, StealLoadTail, TakeLoadHead, TakeLoadSlot}
 use Rattle.machine.specs.Lists.{all, gather, occurrences, upFrom}
-use Rattle.machine.specs.Sizes.{neededMargin}
-use Rattle.machine.specs.Outcome.{numberOf, valueOf}
 use Rattle.machine.specs.Index.{eqZ}
 use Rattle.machine.specs.StoreBuffer.{clientStore, emptyBuffer, slotStore}
 use Rattle.machine.specs.Machine.{fresh}

@@ -4,8 +4,8 @@ use mathlib.Core.Bool.{Bool, true, false, cond}
 use Prim.Native.Nat.{ℕ}
 use lib.IntN.{pos, _-ℤ_}
 use lib.Signed.{ltZ}
+use Rattle.terms.specs.Sizes.{marginInUse}
 use Rattle.machine.specs.Types.{Done, Index, Machine, Nobody, TheThief, Outcome, Moved, Place, Task, Abort, ThiefCall, StealLock, StealLoadHead, StealRaiseHead, StealLoadTail, StealLoadSlot, StealUnlockTask, StealRestoreHead, StealUnlockAbort}
-use Rattle.machine.specs.Sizes.{marginInUse}
 use Rattle.machine.specs.Index.{next}
 use Rattle.machine.specs.Machine.{done, lockIsFree, memoryLoad, needing, thiefCall, thiefTail}
 use Rattle.machine.specs.Update.{withHead, withLock, withThief}

@@ -1,4 +1,9 @@
--- The declared types of `src/`, passed on under one name for the definitions beside this file. Nothing is defined here.
+-- The declared types of `src/`, and those of `terms`, passed on under one name for the definitions beside this file. Nothing is defined here.
+pub use Rattle.terms.specs.declared.outcome.Outcome.{Outcome}
+pub use Rattle.terms.specs.declared.outcome.Outcome.the-variants.{Moved, Place, Early, Wait, Stored, Task, Empty, Abort, Full, End}
+pub use Rattle.terms.specs.declared.sizes.SizeCheck.{SizeCheck}
+pub use Rattle.terms.specs.declared.sizes.SizeCheck.the-variants.{AllInRange, OutOfRange}
+pub use Rattle.terms.specs.declared.sizes.Sizes.{Sizes}
 pub use Rattle.machine.specs.declared.entry.Entry.{Entry}
 pub use Rattle.machine.specs.declared.entry.Entry.the-variants.{Drain, ClientStore, BeginPut, BeginTake, WorkerStep, BeginSteal, ThiefStep}
 pub use Rattle.machine.specs.declared.index.Index.{Index}
@@ -7,11 +12,6 @@ pub use Rattle.machine.specs.declared.machine.Holder.{Holder}
 pub use Rattle.machine.specs.declared.machine.Holder.the-variants.{Nobody, TheWorker, TheThief}
 pub use Rattle.machine.specs.declared.machine.Lock.{Lock}
 pub use Rattle.machine.specs.declared.machine.Machine.{Machine}
-pub use Rattle.machine.specs.declared.outcome.Outcome.{Outcome}
-pub use Rattle.machine.specs.declared.outcome.Outcome.the-variants.{Moved, Place, Early, Wait, Stored, Task, Empty, Abort, Full, End}
-pub use Rattle.machine.specs.declared.sizes.SizeCheck.{SizeCheck}
-pub use Rattle.machine.specs.declared.sizes.SizeCheck.the-variants.{AllInRange, OutOfRange}
-pub use Rattle.machine.specs.declared.sizes.Sizes.{Sizes}
 pub use Rattle.machine.specs.declared.store_buffer.Store.{Store}
 pub use Rattle.machine.specs.declared.store_buffer.StoreBuffer.{StoreBuffer}
 pub use Rattle.machine.specs.declared.store_buffer.StoreKind.{StoreKind}

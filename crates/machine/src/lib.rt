@@ -8,10 +8,9 @@
 // from the head than a margin; with a margin that is large enough for the buffer and for how far takes are spaced apart,
 // no task is handed out twice.
 //
-// Every step of every party is an entry of a schedule, and an entry is obeyed as a whole. Reading order:
+// Every step of every party is an entry of a schedule, and an entry is obeyed as a whole. Sizes and outcomes are those of
+// the library `terms`. Reading order:
 //
-// - `sizes`: the six sizes of a schedule, their ranges, and the margin;
-// - `outcome`: what an entry comes to, with its number and value in a trace;
 // - `entry`: the seven kinds of entry;
 // - `index`: a position of the queue, a signed number that never wraps;
 // - `store_buffer`: the pending stores;
@@ -22,8 +21,6 @@ mod boolean;
 mod entry;
 mod index;
 mod machine;
-mod outcome;
-mod sizes;
 mod store_buffer;
 mod thief;
 mod worker;
@@ -34,10 +31,6 @@ pub use machine::Done;
 pub use machine::Holder;
 pub use machine::Lock;
 pub use machine::Machine;
-pub use outcome::Outcome;
-pub use sizes::SizeCheck;
-pub use sizes::Sizes;
-pub use sizes::needed_margin;
 pub use store_buffer::Store;
 pub use store_buffer::StoreBuffer;
 pub use store_buffer::StoreKind;

@@ -3,8 +3,6 @@ use crate::boolean::chosen;
 use crate::entry::Entry;
 use crate::index::Index;
 use crate::index::slot_of;
-use crate::outcome::Outcome;
-use crate::sizes::Sizes;
 use crate::store_buffer::Store;
 use crate::store_buffer::StoreBuffer;
 use crate::store_buffer::StoreKind;
@@ -13,8 +11,12 @@ use crate::thief::ThiefCall;
 use crate::thief::thieves_in_range;
 use crate::worker::Worker;
 use crate::worker::WorkerCall;
+use terms::Outcome;
+use terms::SizeCheck;
+use terms::Sizes;
 ghost use mathlib.Core.Path.{_≡_};
 ghost use mathlib.Core.Bool.{true};
+ghost use Rattle.terms.specs.Sizes.{sizesInRange};
 ghost use Rattle.machine.specs.InRange.{inRange};
 ghost use Rattle.machine.specs.Index.{slotIndexInRange};
 ghost use Rattle.machine.specs.Machine.{fresh, isNobody, memoryLoad, workerLoad, workerTail};
@@ -79,6 +81,17 @@ pub struct Done {
     pub outcome: Outcome,
 }
 
+// Whether every size is in its range.
+fn sizes_in_range(sizes: Sizes) -> bool
+    ensures { λ r. ⌜ r ≡ sizesInRange sizes ⌝ }
+{
+    let found = sizes.check();
+    match found {
+        SizeCheck::AllInRange => true,
+        SizeCheck::OutOfRange(_) => false,
+    }
+}
+
 impl Machine {
     // Whether sizes, number of pending stores, spacing count and every index are in range.
     pub fn in_range(self) -> bool
@@ -91,7 +104,7 @@ impl Machine {
         let head = self.head;
         let tail = self.tail;
         let room = sizes.buffer as usize;
-        let sized = both(sizes.in_range(), buffer.count <= room);
+        let sized = both(sizes_in_range(sizes), buffer.count <= room);
         let counted = both(sized, self.since <= 4096);
         let headed = both(counted, head.in_range());
         let tailed = both(headed, tail.in_range());

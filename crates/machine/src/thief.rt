@@ -3,7 +3,7 @@ use crate::index::Index;
 use crate::machine::Done;
 use crate::machine::Holder;
 use crate::machine::Machine;
-use crate::outcome::Outcome;
+use terms::Outcome;
 ghost use mathlib.Core.Path.{_≡_};
 ghost use mathlib.Core.Bool.{true, _&&_};
 ghost use Prim.Native.Nat.{_<_};

@@ -8,7 +8,7 @@ use native.Mathlib.Omega.{arith}
 use lib.ListN.{drop, getD, length, replicate, take, take-append-drop}
 use lib.Seq.{drop-at, drop-drop, take-at}
 use borrow.Author.Tests.{lt-ltb}
-use Rattle.machine.proofs.Laws.Sizes.{sizes-bounds}
+use Rattle.terms.proofs.Laws.Sizes.{sizes-bounds}
 use Rattle.schedule.specs.Types.{Accepted, Sizes, Written}
 use Rattle.schedule.specs.Number.{allBelow}
 use Rattle.schedule.specs.Check.{checkRanges}

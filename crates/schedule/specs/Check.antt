@@ -2,7 +2,7 @@
 use mathlib.Core.Bool.{Bool, cond}
 use mathlib.Core.List.{List, [], _∷_, _++_}
 use Prim.Native.Nat.{ℕ}
-use Rattle.machine.specs.Sizes.{firstFault, rangesKept, within}
+use Rattle.terms.specs.Sizes.{firstFault, rangesKept, within}
 use Rattle.schedule.specs.Types.{AllInRange, Check, Failed, OutOfRange, Passed, Refusal, Size, SizeCheck, Sizes}
 
 -- of several checks in their order, the first that fails decides

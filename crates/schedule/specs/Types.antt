@@ -1,9 +1,9 @@
 -- The declared types that the definitions beside this file speak of, passed on under one name. Nothing is defined here.
+pub use Rattle.terms.specs.declared.sizes.SizeCheck.{SizeCheck}
+pub use Rattle.terms.specs.declared.sizes.SizeCheck.the-variants.{AllInRange, OutOfRange}
+pub use Rattle.terms.specs.declared.sizes.Sizes.{Sizes}
 pub use Rattle.machine.specs.declared.entry.Entry.{Entry}
 pub use Rattle.machine.specs.declared.entry.Entry.the-variants.{Drain, ClientStore, BeginPut, BeginTake, WorkerStep, BeginSteal, ThiefStep}
-pub use Rattle.machine.specs.declared.sizes.SizeCheck.{SizeCheck}
-pub use Rattle.machine.specs.declared.sizes.SizeCheck.the-variants.{AllInRange, OutOfRange}
-pub use Rattle.machine.specs.declared.sizes.Sizes.{Sizes}
 pub use Rattle.schedule.specs.declared.check.Check.{Check}
 pub use Rattle.schedule.specs.declared.check.Check.the-variants.{Passed, Failed}
 pub use Rattle.schedule.specs.declared.entries.Meaning.{Meaning}

@@ -1,8 +1,8 @@
 ghost use mathlib.Core.Path.{_≡_};
 ghost use Rattle.schedule.specs.Check.{checkRanges};
 use crate::refusal::Refusal;
-use machine::SizeCheck;
-use machine::Sizes;
+use terms::SizeCheck;
+use terms::Sizes;
 
 // What a check comes to.
 pub(crate) enum Check {

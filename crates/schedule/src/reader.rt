@@ -10,7 +10,7 @@ use crate::number::ENTRY_BYTES;
 use crate::number::SIZES_BYTES;
 use crate::number::word_at;
 use crate::refusal::Refusal;
-use machine::Sizes;
+use terms::Sizes;
 
 // What reading a file comes to.
 pub enum Reading {

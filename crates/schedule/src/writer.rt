@@ -12,7 +12,7 @@ use crate::number::ENTRY_BYTES;
 use crate::number::SIZES_BYTES;
 use crate::number::put_word;
 use crate::refusal::Refusal;
-use machine::Sizes;
+use terms::Sizes;
 
 // What writing a file comes to.
 pub enum Writing {

@@ -12,8 +12,8 @@ use native.Mathlib.Omega.{arith}
 use lib.ListN.{length}
 use lib.Signed.{ltZ}
 use borrow.Author.Tests.{le-ltb, lt-ltb}
+use Rattle.terms.specs.Sizes.{neededMargin}
 use Rattle.machine.specs.Types.{Index, Store, StoreKind, Client, Tail, Slot}
-use Rattle.machine.specs.Sizes.{neededMargin}
 use Rattle.machine.specs.StoreBuffer.{clientStore, slotStore, tailAfter, tailStore}
 use Rattle.machine.proofs.Laws.Index.{idx, idx-lt}
 

@@ -8,17 +8,17 @@ use lib.Dec.{leb, ltb}
 use lib.IntN.{pos}
 use lib.Signed.{leZ}
 use borrow.Author.Tests.{leb-true, ltb-true}
+use Rattle.terms.specs.Sizes.{sizesInRange}
+use Rattle.terms.proofs.Laws.Sizes.{SizeBounds, sizes-bounds}
+use Rattle.terms.proofs.Laws.Tests.{both-left, both-right}
 use Rattle.machine.specs.Types.{Index, Machine, Store, StoreKind, Client, Tail, Slot}
 use Rattle.machine.specs.Lists.{all}
-use Rattle.machine.specs.Sizes.{sizesInRange}
 use Rattle.machine.specs.Index.{indexInRange, slotIndexInRange, slotOf}
 use Rattle.machine.specs.StoreBuffer.{clientStore, oldest, pending, tailAfter}
 use Rattle.machine.specs.Machine.{idleThief, thiefCall, workerTail}
 use Rattle.machine.specs.InRange.{inRange, storeInRange, thiefInRange, workerInRange}
 use Rattle.machine.proofs.Laws.Index.{slotOf-below}
 use Rattle.machine.proofs.Laws.Lists.{all-at, all-getD}
-use Rattle.machine.proofs.Laws.Sizes.{SizeBounds, sizes-bounds}
-use Rattle.machine.proofs.Laws.Tests.{both-left, both-right}
 
 -- ── The machine ─────────────────────────────────────────────────────────────────────────────────────────────────────────────
 

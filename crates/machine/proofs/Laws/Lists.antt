@@ -10,8 +10,8 @@ use native.Mathlib.Omega.{arith}
 use lib.ListN.{length, getD, take, drop, set, replicate, length-drop}
 use lib.Seq.{append-snoc, drop-cons, getD-append-add, getD-drop, getD-set-other, getD-set-same, length-take-le, set-at, take-all, take-nil, take-suc}
 use borrow.Author.Tests.{eqb-false, eqb-true}
+use Rattle.terms.proofs.Laws.Tests.{both-left, both-right}
 use Rattle.machine.specs.Lists.{all, upFrom, upTo}
-use Rattle.machine.proofs.Laws.Tests.{both-left, both-right}
 
 &&-assoc : (a b c : Bool) → (a && (b && c)) ≡ (a && b && c)
 &&-assoc true b c = refl

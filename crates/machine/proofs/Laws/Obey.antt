@@ -3,15 +3,15 @@
 use mathlib.Core.Path.{_≡_, refl, ap, sym, _∙_}
 use mathlib.Core.Bool.{Bool, true, false, and-false, cond, not, _&&_, false≢true}
 use Prim.Native.Nat.{ℕ}
+use Rattle.terms.specs.Outcome.{isAnswer, isRefusal}
+use Rattle.terms.proofs.Laws.Tests.{either}
 use Rattle.machine.specs.Types.{Done, Entry, Drain, ClientStore, BeginPut, BeginTake, WorkerStep, BeginSteal, ThiefStep, Machine, Outcome, Moved, Wait, ThiefCall, StealLock, StealLoadHead, StealRaiseHead, StealLoadTail, StealLoadSlot, StealUnlockTask, StealRestoreHead, StealUnlockAbort, WorkerCall, PutLoadHead, PutStoreSlot, PutStoreTail, TakeStoreTail, TakeLoadHead, TakeLoadSlot, TakeLock, TakeReloadHead, TakeRestoreTail, TakeUnlockEmpty, TakeUnlockTask, TakeLoadLastSlot}
-use Rattle.machine.specs.Outcome.{isAnswer, isRefusal}
 use Rattle.machine.specs.Machine.{done, hasRoom, lockIsFree, nothingPending, thiefCall}
 use Rattle.machine.specs.InRange.{inRange}
 use Rattle.machine.specs.Worker.{atEnd, atOrAboveHead, headIsPast, isFull, stepOfWorker, tooEarly, workerRuns}
 use Rattle.machine.specs.Thief.{marginKept, stepOfThief, thiefRuns}
 use Rattle.machine.specs.Obey.{obey, obeyInRange, thiefIsThere}
 use Rattle.machine.specs.Effect.{PartyCall, stepOf}
-use Rattle.machine.proofs.Laws.Tests.{either}
 
 -- An entry e on the machine m comes to d.
 record Obeys (m : Machine) (e : Entry) (d : Done) : Type 0 where

@@ -6,12 +6,12 @@ use Prim.Native.Nat.{ℕ, _+_, _-_, _≤_, _<_, zero-le}
 use native.Mathlib.Omega.{arith}
 use lib.Dec.{eqb}
 use lib.ListN.{length, take, drop, length-append, length-drop, length-map, length-take}
+use Rattle.terms.proofs.Laws.Tests.{either}
 use Rattle.machine.specs.Types.{Outcome, Empty, Abort, Full, End}
 use Rattle.machine.specs.Lists.{upTo}
 use Rattle.machine.specs.PlainQueue.{Told, toldPut, toldTake, toldSteal, PlainQueue, Reply, StoredTask, emptyQueue, joined, leaves, newest, respond, unchanged, withoutNewest}
 use Rattle.machine.specs.Linearizable.{taskIn}
 use Rattle.machine.proofs.Laws.Sums.{Adds, adds-length, adds-map, adds-take-drop, length-upTo, upTo-suc}
-use Rattle.machine.proofs.Laws.Tests.{either}
 
 -- ── The account of the tasks ────────────────────────────────────────────────────────────────────────────────────────────────
 

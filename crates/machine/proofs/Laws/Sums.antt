@@ -9,8 +9,8 @@ use native.Mathlib.Omega.{arith}
 use lib.Dec.{eqb, ltb}
 use lib.ListN.{length, take, drop, length-append, replicate, take-append-drop}
 use borrow.Author.Tests.{eqb-false, eqb-true, le-ltb, lt-ltb, ltb-false, ltb-true}
+use Rattle.terms.proofs.Laws.Tests.{eqb-comm}
 use Rattle.machine.specs.Lists.{gather, occurrences, upFrom, upTo}
-use Rattle.machine.proofs.Laws.Tests.{eqb-comm}
 
 -- ── Sums ────────────────────────────────────────────────────────────────────────────────────────────────────────────────────
 

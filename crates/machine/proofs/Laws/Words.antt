@@ -11,9 +11,9 @@ use mir.Facts.{toZ-ofZ}
 use mir.Syntax.{w64}
 use mir.Val.{Fits, SFits, ofZ, toZ}
 use borrow.Author.Tests.{leb-true}
+use Rattle.terms.proofs.Laws.Tests.{both-left, either}
 use Rattle.machine.specs.Types.{Index}
 use Rattle.machine.specs.Index.{indexInRange, modulo}
-use Rattle.machine.proofs.Laws.Tests.{both-left, either}
 
 -- ── An integer that is not below 0, as a number of 64 bits ──────────────────────────────────────────────────────────────────
 

@@ -8,14 +8,14 @@ use Prim.Native.Nat.{ℕ, _+_}
 use native.Mathlib.Omega.{arith}
 use lib.Dec.{ltb}
 use lib.ListN.{length, length-append, replicate}
+use Rattle.terms.specs.Outcome.{isAnswer, isRefusal}
+use Rattle.terms.proofs.Laws.Tests.{cond-map, either}
 use Rattle.machine.specs.Types.{Entry, Drain, ClientStore, BeginPut, BeginTake, WorkerStep, BeginSteal, ThiefStep, Machine, Outcome, Moved, Place, Early, Wait, Stored, Task, Empty, Abort, Full, End, Sizes}
 use Rattle.machine.specs.Lists.{gather, occurrences, upTo}
-use Rattle.machine.specs.Outcome.{isAnswer, isRefusal}
 use Rattle.machine.specs.Obey.{obey, thiefIsThere}
 use Rattle.machine.specs.PlainQueue.{Told, toldPut, toldTake, toldSteal, PlainQueue, Reply, StoredTask, emptyQueue, respond}
 use Rattle.machine.specs.Effect.{Begun, nothing, aPut, aTake, aSteal, Effect, none, decided, Event, Party, worker, thief, PartyCall, Watch, begunBy, callAfter, callAt, effect, events, orBegun, partyOf, queueAfter, repliesAt, sameParty, stepOf, toldOf, watchAfter, watched, watchFresh}
 use Rattle.machine.specs.Linearizable.{answering, answersTo, givenTo, numbersAnsweredOrOwed, owes, parties, taskIn, tasksOf}
-use Rattle.machine.proofs.Laws.Tests.{cond-map, either}
 use Rattle.machine.proofs.Laws.Sums.{Adds, adds-gather, adds-length, adds-map, adds-occurrences, adds-sumOf, map-upTo, measure-gather, occurrences-upTo, sumOf, sumOf-map, sumOf-map-same, sumOf-replace, sumOf-same, sumOf-upTo, sumOf-zero}
 use Rattle.machine.proofs.Laws.PlainQueue.{putsOf, respond-accounts, respond-counts, respond-taskIn}
 use Rattle.machine.proofs.Laws.Obey.{answers-at-steps, sizes-kept, thief-there}

@@ -7,8 +7,8 @@ use Prim.Native.Nat.{ℕ, _+_, _≤_}
 use native.Mathlib.Omega.{arith}
 use lib.ListN.{length, length-take}
 use borrow.Author.Tests.{le-leb}
+use Rattle.terms.specs.Sizes.{neededMargin, sizesInRange}
 use Rattle.machine.specs.Types.{Entry, Index, Machine, Sizes, ThiefCall, StealLock, StealLoadHead, StealRaiseHead, StealLoadTail, StealLoadSlot, StealUnlockTask, StealRestoreHead, StealUnlockAbort, WorkerCall, PutLoadHead, PutStoreSlot, PutStoreTail, TakeStoreTail, TakeLoadHead, TakeLoadSlot, TakeLock, TakeReloadHead, TakeRestoreTail, TakeUnlockEmpty, TakeUnlockTask, TakeLoadLastSlot}
-use Rattle.machine.specs.Sizes.{neededMargin, sizesInRange}
 use Rattle.machine.specs.Index.{indexInRange, slotIndexInRange}
 use Rattle.machine.specs.StoreBuffer.{pending}
 use Rattle.machine.specs.Machine.{fresh, idleThief, thiefCall}

@@ -5,6 +5,8 @@ use mathlib.Core.List.{List, _∷_}
 use Prim.Native.Nat.{ℕ, _+_, _-_, _≤_, _<_}
 use native.Mathlib.Omega.{arith}
 use lib.ListN.{length, drop, length-append, length-drop, length-take}
+use Rattle.terms.proofs.Laws.Tests.{both-left, both-right}
+use Rattle.terms.proofs.Laws.Sizes.{SizeBounds}
 use Rattle.machine.specs.Types.{Index, Machine, Sizes, Store, StoreBuffer, ThiefCall, StealLock, StealLoadHead, StealRaiseHead, StealLoadTail, StealLoadSlot, StealUnlockTask, StealRestoreHead, StealUnlockAbort, WorkerCall}
 use Rattle.machine.specs.Lists.{all}
 use Rattle.machine.specs.Index.{slotOf}
@@ -13,8 +15,6 @@ use Rattle.machine.specs.InRange.{storeInRange}
 use Rattle.machine.specs.Machine.{memoryLoad, workerLoad, workerTail}
 use Rattle.machine.specs.PlainQueue.{PlainQueue}
 use Rattle.machine.specs.Linearizable.{workerOwes}
-use Rattle.machine.proofs.Laws.Tests.{both-left, both-right}
-use Rattle.machine.proofs.Laws.Sizes.{SizeBounds}
 use Rattle.machine.proofs.Laws.Index.{idx, slotOf-below}
 use Rattle.machine.proofs.Laws.InRange.{tailAfter-in-range}
 use Rattle.machine.proofs.Laws.StoreBuffer.{dropOldest-pending, pending-oldest, slotsAfter-length, slotsAfter-slotAfter}

@@ -12,9 +12,10 @@ use Prim.Native.Nat.{ℕ, _+_, _-_, _≤_, _<_}
 use native.Mathlib.Omega.{arith}
 use lib.Dec.{eqb}
 use lib.ListN.{length, getD}
+use Rattle.terms.specs.Sizes.{enoughMargin}
+use Rattle.terms.proofs.Laws.Sizes.{SizeBounds}
 use Rattle.machine.specs.Types.{Holder, Nobody, TheWorker, TheThief, Index, Machine, Outcome, Sizes, Store, StoreBuffer, ThiefCall, StealLock, StealLoadHead, StealRaiseHead, StealLoadTail, StealLoadSlot, StealUnlockTask, StealRestoreHead, StealUnlockAbort, WorkerCall, PutLoadHead, PutStoreSlot, PutStoreTail, TakeStoreTail, TakeLoadHead, TakeLoadSlot, TakeLock, TakeReloadHead, TakeRestoreTail, TakeUnlockEmpty, TakeUnlockTask, TakeLoadLastSlot}
 use Rattle.machine.specs.Lists.{all}
-use Rattle.machine.specs.Sizes.{enoughMargin}
 use Rattle.machine.specs.Index.{indexInRange}
 use Rattle.machine.specs.InRange.{storeInRange}
 use Rattle.machine.specs.StoreBuffer.{pending}
@@ -22,7 +23,6 @@ use Rattle.machine.specs.Machine.{thiefCall, workerLoad, workerTail}
 use Rattle.machine.specs.PlainQueue.{PlainQueue, StoredTask}
 use Rattle.machine.specs.Effect.{Begun, nothing, aPut, aTake, aSteal, PartyCall, Watch, worker, thief}
 use Rattle.machine.specs.Linearizable.{answersTo, thiefOwes, workerOwes}
-use Rattle.machine.proofs.Laws.Sizes.{SizeBounds}
 use Rattle.machine.proofs.Laws.Index.{idx}
 use Rattle.machine.proofs.Laws.Chain.{Chain, SlotsWithin}
 

@@ -9,6 +9,7 @@ use lib.IntN.{pos, _-ℤ_}
 use lib.ListN.{length, length-append}
 use lib.Signed.{leZ}
 use borrow.Author.Tests.{eq-eqb, eqb-false, eqb-true, le-leb, leb-false, leb-true, lt-ltb, ltb-true, ne-eqb}
+use Rattle.terms.proofs.Laws.Tests.{decide, known}
 use Rattle.machine.specs.Types.{Machine, Moved, Wait, Stored, Full, End, ThiefCall, WorkerCall, PutLoadHead, PutStoreSlot, PutStoreTail}
 use Rattle.machine.specs.Index.{eqZ, next, slotOf}
 use Rattle.machine.specs.StoreBuffer.{push, slotStore, tailStore}
@@ -18,7 +19,6 @@ use Rattle.machine.specs.Update.{pushed}
 use Rattle.machine.specs.PlainQueue.{toldPut, PlainQueue}
 use Rattle.machine.specs.Worker.{atEnd, isFull, putLoadHead, putStoreSlot, putStoreTail, workerAnswers, workerGoesOn}
 use Rattle.machine.specs.Effect.{aPut}
-use Rattle.machine.proofs.Laws.Tests.{decide, known}
 use Rattle.machine.proofs.Laws.Index.{idx, idx-eq, idx-full, idx-next, idx-slot-in-range}
 use Rattle.machine.proofs.Laws.Chain.{between, no-store, none, slot}
 use Rattle.machine.proofs.Laws.Loads.{pushed-workerLoad, pushed-workerTail, slotAfter-apart}

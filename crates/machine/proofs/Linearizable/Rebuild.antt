@@ -7,8 +7,9 @@ use native.Mathlib.Nat.{le-refl}
 use native.Mathlib.Omega.{arith}
 use lib.ListN.{length, length-set}
 use borrow.Author.Tests.{le-leb}
+use Rattle.terms.specs.Outcome.{isAnswer, isRefusal}
+use Rattle.terms.proofs.Laws.Sizes.{SizeBounds}
 use Rattle.machine.specs.Types.{Done, Entry, Index, Lock, Machine, Outcome, Sizes, Store, StoreBuffer, ThiefCall, StealLock, StealLoadHead, StealRaiseHead, StealLoadTail, StealLoadSlot, StealUnlockTask, StealRestoreHead, StealUnlockAbort, WorkerCall}
-use Rattle.machine.specs.Outcome.{isAnswer, isRefusal}
 use Rattle.machine.specs.Index.{slotOf}
 use Rattle.machine.specs.StoreBuffer.{newestTail, pending, push, slotAfter, tailStore}
 use Rattle.machine.specs.InRange.{storeInRange}
@@ -18,7 +19,6 @@ use Rattle.machine.specs.PlainQueue.{Told, PlainQueue, StoredTask}
 use Rattle.machine.specs.Effect.{Effect}
 use Rattle.machine.specs.Linearizable.{workerOwes}
 use Rattle.machine.proofs.Laws.Lists.{all-snoc}
-use Rattle.machine.proofs.Laws.Sizes.{SizeBounds}
 use Rattle.machine.proofs.Laws.Index.{idx, idx-in-range}
 use Rattle.machine.proofs.Laws.StoreBuffer.{push-pending}
 use Rattle.machine.proofs.Laws.Chain.{Chain, SlotsWithin, none, no-store, past-tail, up, chain-push, chain-raise, chain-tail, slots-append}

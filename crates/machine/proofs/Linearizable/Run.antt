@@ -9,17 +9,17 @@ use lib.Dec.{eqb}
 use lib.ListN.{length, length-set}
 use lib.Seq.{getD-set-other, getD-set-same}
 use borrow.Author.Tests.{eq-eqb, eqb-false, eqb-true, ltb-true, ne-eqb, not-true}
+use Rattle.terms.specs.Sizes.{enoughMargin}
+use Rattle.terms.specs.Outcome.{isAnswer, isRefusal}
+use Rattle.terms.proofs.Laws.Tests.{both-right, decide}
 use Rattle.machine.specs.Types.{Done, Entry, Index, Drain, ClientStore, BeginPut, BeginTake, WorkerStep, BeginSteal, ThiefStep, Machine, Outcome, Moved, Wait, Sizes, ThiefCall, StealLoadSlot, WorkerCall}
 use Rattle.machine.specs.Lists.{all}
-use Rattle.machine.specs.Sizes.{enoughMargin}
-use Rattle.machine.specs.Outcome.{isAnswer, isRefusal}
 use Rattle.machine.specs.Machine.{done, idleThief, memoryLoad, nothingPending, thiefCall}
 use Rattle.machine.specs.InRange.{inRange}
 use Rattle.machine.specs.Obey.{obey, obeyInRange, thiefIsThere}
 use Rattle.machine.specs.PlainQueue.{Told, PlainQueue, Reply, respond, withinLimits}
 use Rattle.machine.specs.Effect.{Begun, nothing, aPut, aTake, aSteal, Effect, none, Party, worker, thief, PartyCall, Watch, begunBy, callAfter, effectOf, noCall, orBegun, partyOf, queueAfter, sameParty, workerEffect, thiefEffect}
 use Rattle.machine.specs.Linearizable.{answersTo, thiefOwes, workerOwes}
-use Rattle.machine.proofs.Laws.Tests.{both-right, decide}
 use Rattle.machine.proofs.Laws.Loads.{drained}
 use Rattle.machine.proofs.Linearizable.Invariant.{AgreesOn, Follows, InPlace, Invariant, Sound, holds, outside, thiefBegun, workerBegun}
 use Rattle.machine.proofs.Linearizable.Turn.{ThiefTurn, Turn, WorkerTurn, begunAfter, orElse, owedAfter, afterThief, toldIn, afterWorker}

@@ -9,8 +9,9 @@ use lib.Dec.{leb}
 use lib.ListN.{length, length-take}
 use lib.Signed.{leZ}
 use borrow.Author.Tests.{leb-false, leb-true, ltb-true}
+use Rattle.terms.specs.Outcome.{isAnswer}
+use Rattle.terms.proofs.Laws.Tests.{both-left, decide, known}
 use Rattle.machine.specs.Types.{WorkerStep, Nobody, TheWorker, Index, Lock, Machine, Outcome, Moved, Wait, Task, Empty, Store, ThiefCall, WorkerCall, TakeStoreTail, TakeLoadHead, TakeLoadSlot, TakeLock, TakeReloadHead, TakeRestoreTail, TakeUnlockEmpty, TakeUnlockTask, TakeLoadLastSlot}
-use Rattle.machine.specs.Outcome.{isAnswer}
 use Rattle.machine.specs.Index.{next, previous}
 use Rattle.machine.specs.StoreBuffer.{push, tailStore}
 use Rattle.machine.specs.Machine.{done, hasRoom, lockIsFree, nothingPending, workerLoad, workerTail}
@@ -19,7 +20,6 @@ use Rattle.machine.specs.PlainQueue.{toldTake, PlainQueue}
 use Rattle.machine.specs.Worker.{atOrAboveHead, headIsPast, takeLoadHead, takeLoadSlot, takeLock, takeReloadHead, takeRestoreTail, takeStoreTail, takeUnlockEmpty, takeUnlockTask, workerGoesOn}
 use Rattle.machine.specs.Effect.{aTake, onlyWhere, toldOf, workerEffect}
 use Rattle.machine.specs.Linearizable.{workerOwes}
-use Rattle.machine.proofs.Laws.Tests.{both-left, decide, known}
 use Rattle.machine.proofs.Laws.Index.{idx, idx-le, idx-next, idx-previous}
 use Rattle.machine.proofs.Laws.Chain.{Chain, down, none}
 use Rattle.machine.proofs.Linearizable.Invariant.{Agrees, AgreesOn, Exclusive, Sound, asked, filling, head-at, holds, lowered, raised, stolen, taskAt, workerBegun}

@@ -8,18 +8,18 @@ use native.Mathlib.Omega.{arith}
 use lib.IntN.{pos, _+ℤ_, _-ℤ_}
 use lib.ListN.{getD, length, replicate}
 use borrow.Author.Tests.{eq-eqb, le-leb}
+use Rattle.terms.specs.Sizes.{enoughMargin, sizesInRange}
+use Rattle.terms.specs.Outcome.{isAnswer}
+use Rattle.terms.proofs.Laws.Tests.{both-left, both-right}
+use Rattle.terms.proofs.Laws.Sizes.{SizeBounds, sizes-bounds}
 use Rattle.machine.specs.Types.{Entry, Holder, Nobody, TheWorker, TheThief, Machine, Sizes, ThiefCall, StealLock, StealLoadHead, StealRaiseHead, StealLoadTail, StealLoadSlot, StealUnlockTask, StealRestoreHead, StealUnlockAbort, WorkerCall, PutLoadHead, PutStoreSlot, PutStoreTail, TakeStoreTail, TakeLoadHead, TakeLoadSlot, TakeLock, TakeReloadHead, TakeRestoreTail, TakeUnlockEmpty, TakeUnlockTask, TakeLoadLastSlot}
 use Rattle.machine.specs.Lists.{all, upTo}
-use Rattle.machine.specs.Sizes.{enoughMargin, sizesInRange}
-use Rattle.machine.specs.Outcome.{isAnswer}
 use Rattle.machine.specs.Index.{indexInRange}
 use Rattle.machine.specs.Machine.{fresh, idleThief, thiefCall, workerLoad, workerTail}
 use Rattle.machine.specs.PlainQueue.{withinLimits}
 use Rattle.machine.specs.Effect.{Event, Party, worker, thief, Watch, callAt, eventAt, events, watchAfter, watchFresh, watched}
 use Rattle.machine.specs.Linearizable.{Demand3, answering, answersTo, isNothing, noCallRuns, owes, parties, standingInSlots, stepsUp, thiefOwes}
-use Rattle.machine.proofs.Laws.Tests.{both-left, both-right}
 use Rattle.machine.proofs.Laws.Lists.{all-map, all-upTo}
-use Rattle.machine.proofs.Laws.Sizes.{SizeBounds, sizes-bounds}
 use Rattle.machine.proofs.Laws.Index.{idx, idx-as, idx-in-range, idx-minus, idx-of, idx-plus}
 use Rattle.machine.proofs.Laws.Obey.{answers-at-steps}
 use Rattle.machine.proofs.Laws.Chain.{none}

@@ -11,9 +11,11 @@ use lib.ListN.{length, length-drop, length-take}
 use lib.Seq.{set-getD}
 use lib.Signed.{ltZ}
 use borrow.Author.Tests.{leb-true, lt-ltb, ltb-true}
+use Rattle.terms.specs.Sizes.{enoughMargin, marginInUse, neededMargin}
+use Rattle.terms.specs.Outcome.{isAnswer, isRefusal}
+use Rattle.terms.proofs.Laws.Tests.{decide, known}
+use Rattle.terms.proofs.Laws.Sizes.{marginInUse-some}
 use Rattle.machine.specs.Types.{Done, Entry, BeginSteal, ThiefStep, Nobody, TheThief, Index, Lock, Machine, Outcome, Moved, Place, Wait, Task, Abort, Store, Thief, ThiefCall, StealLock, StealLoadHead, StealRaiseHead, StealLoadTail, StealLoadSlot, StealUnlockTask, StealRestoreHead, StealUnlockAbort, WorkerCall}
-use Rattle.machine.specs.Sizes.{enoughMargin, marginInUse, neededMargin}
-use Rattle.machine.specs.Outcome.{isAnswer, isRefusal}
 use Rattle.machine.specs.Index.{indexInRange, next}
 use Rattle.machine.specs.StoreBuffer.{pending}
 use Rattle.machine.specs.Machine.{done, idleThief, lockIsFree, memoryLoad, thiefCall, workerLoad}
@@ -22,8 +24,6 @@ use Rattle.machine.specs.PlainQueue.{Told, toldSteal, PlainQueue, unchan
 use Rattle.machine.specs.Thief.{beginSteal, marginKept, stealLoadHead, stealLoadSlot, stealLoadTail, stealLock, stealRaiseHead, stealRestoreHead, stepOfThief, thiefGoesOn, thiefRuns}
 use Rattle.machine.specs.Effect.{Effect, none, thiefEffect}
 use Rattle.machine.specs.Linearizable.{thiefOwes}
-use Rattle.machine.proofs.Laws.Tests.{decide, known}
-use Rattle.machine.proofs.Laws.Sizes.{marginInUse-some}
 use Rattle.machine.proofs.Laws.Index.{idx, idx-as, idx-in-range, idx-margin, idx-next}
 use Rattle.machine.proofs.Laws.Chain.{chain-safe}
 use Rattle.machine.proofs.Laws.Loads.{slots-leave}

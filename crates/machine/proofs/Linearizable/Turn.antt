@@ -4,10 +4,10 @@ use mathlib.Core.Bool.{Bool, true, false, cond, false≢true}
 use mathlib.Core.List.{List, [], _∷_, _++_, append-nil, map}
 use Prim.Native.Nat.{ℕ, _+_}
 use lib.ListN.{set}
+use Rattle.terms.specs.Sizes.{enoughMargin}
+use Rattle.terms.specs.Outcome.{isAnswer, isRefusal}
 use Rattle.machine.specs.Types.{Done, Entry, WorkerStep, ThiefStep, Index, Lock, Machine, Outcome, Moved, StoreBuffer, ThiefCall, WorkerCall}
 use Rattle.machine.specs.Lists.{all}
-use Rattle.machine.specs.Sizes.{enoughMargin}
-use Rattle.machine.specs.Outcome.{isAnswer, isRefusal}
 use Rattle.machine.specs.Machine.{done}
 use Rattle.machine.specs.PlainQueue.{Told, PlainQueue, Reply, respond, withinLimits}
 use Rattle.machine.specs.Effect.{Begun, nothing, aPut, aTake, aSteal, Effect, none, begunBy, queueAfter, thiefEffect, toldOf, workerEffect}

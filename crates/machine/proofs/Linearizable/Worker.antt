@@ -6,6 +6,7 @@ use Prim.Native.Nat.{ℕ, _+_, _-_, _≤_}
 use native.Mathlib.Omega.{arith}
 use lib.Dec.{ltb}
 use borrow.Author.Tests.{ltb-false, ltb-true}
+use Rattle.terms.proofs.Laws.Tests.{decide}
 use Rattle.machine.specs.Types.{Done, Entry, ClientStore, BeginPut, BeginTake, Machine, Moved, Place, Early, Wait, ThiefCall, WorkerCall, PutLoadHead, PutStoreSlot, PutStoreTail, TakeStoreTail, TakeLoadHead, TakeLoadSlot, TakeLock, TakeReloadHead, TakeRestoreTail, TakeUnlockEmpty, TakeUnlockTask, TakeLoadLastSlot}
 use Rattle.machine.specs.StoreBuffer.{clientStore, push}
 use Rattle.machine.specs.Machine.{done, hasRoom, needing}
@@ -13,7 +14,6 @@ use Rattle.machine.specs.Update.{pushed, withSpacing}
 use Rattle.machine.specs.PlainQueue.{PlainQueue}
 use Rattle.machine.specs.Worker.{beginPut, beginTake, countedStore, makeClientStore, stepOfWorker, tooEarly, unlessWorkerRuns, workerGoesOn, workerRuns}
 use Rattle.machine.specs.Effect.{none}
-use Rattle.machine.proofs.Laws.Tests.{decide}
 use Rattle.machine.proofs.Laws.Chain.{client, no-store, none as no-link, past-client}
 use Rattle.machine.proofs.Linearizable.Invariant.{AgreesOn, Sound, asked, stolen}
 use Rattle.machine.proofs.Linearizable.Turn.{StepTurn, WorkerTurn, moves, afterWorker}

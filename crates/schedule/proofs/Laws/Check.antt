@@ -7,11 +7,11 @@ use native.Mathlib.Nat.{add-zero, le-dest, le-of-suc-le-suc, not-suc-le-zero, ze
 use native.Mathlib.Numerals.{add-one}
 use native.Mathlib.Omega.{arith}
 use lib.ListN.{getD, length, length-map}
+use Rattle.terms.specs.Sizes.{checkSizes, firstFault, noFault, rangesKept, sizesInRange, within}
+use Rattle.terms.proofs.Laws.Sizes.{kept-at}
+use Rattle.terms.proofs.Laws.Tests.{cond-map}
 use Rattle.machine.specs.Lists.{upFrom, upTo}
-use Rattle.machine.specs.Sizes.{checkSizes, firstFault, noFault, rangesKept, sizesInRange, within}
-use Rattle.machine.proofs.Laws.Sizes.{kept-at}
 use Rattle.machine.proofs.Laws.Sums.{length-upTo, upTo-suc}
-use Rattle.machine.proofs.Laws.Tests.{cond-map}
 use Rattle.schedule.specs.Types.{AllInRange, Check, Failed, OutOfRange, Passed, Refusal, Size, SizeCheck, Sizes}
 use Rattle.schedule.specs.Check.{checkRanges, failIf, first, sizeRefusal, sizesKept}
 

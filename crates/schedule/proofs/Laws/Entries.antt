@@ -7,9 +7,9 @@ use native.Mathlib.Omega.{arith}
 use lib.Dec.{eqb, ltb}
 use lib.ListN.{length, drop, getD, take, List·getD-eq-default}
 use borrow.Author.Tests.{eqb-true, le-ltb, lt-ltb, ltb-false, ltb-true}
+use Rattle.terms.proofs.Laws.Tests.{cond-map}
 use Rattle.machine.specs.Lists.{upTo}
 use Rattle.machine.proofs.Laws.Lists.{all-each}
-use Rattle.machine.proofs.Laws.Tests.{cond-map}
 use Rattle.schedule.specs.Types.{BeginPut, BeginSteal, BeginTake, ClientStore, Drain, Entry, ThiefStep, WorkerStep}
 use Rattle.schedule.specs.Types.{Allowed, Check, Failed, Kind, Meaning, Passed, Refusal, Short, Who}
 use Rattle.schedule.specs.declared.entries.Meaning.the-variants.{Refused}

@@ -9,8 +9,8 @@ use lib.Dec.{ltb}
 use lib.ListN.{length, drop, getD, replicate, take, length-append, length-drop, length-replicate, take-append-drop}
 use lib.Seq.{drop-at, drop-drop, length-take-le, take-at}
 use borrow.Author.Tests.{ltb-true}
+use Rattle.terms.proofs.Laws.Tests.{both-left, both-right}
 use Rattle.machine.proofs.Laws.Sums.{sumOf, sumOf-append}
-use Rattle.machine.proofs.Laws.Tests.{both-left, both-right}
 use Rattle.schedule.specs.Types.{Sizes}
 use Rattle.schedule.specs.Number.{littleEndian, ofBytes}
 use Rattle.schedule.specs.Format.{decode, encode, fileOf, kindsIn, layout, operandsIn, sizeBytes, sizeNumbers, wordBytes, wordsIn}

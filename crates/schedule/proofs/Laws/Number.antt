@@ -8,7 +8,7 @@ use native.Mathlib.Omega.{arith}
 use lib.Dec.{ltb}
 use lib.ListN.{drop, length, take}
 use borrow.Author.Tests.{ltb-true}
-use Rattle.machine.proofs.Laws.Tests.{both-left, both-right}
+use Rattle.terms.proofs.Laws.Tests.{both-left, both-right}
 use Rattle.schedule.specs.Number.{allBelow, littleEndian, ofBytes}
 
 -- a number in so many bytes is so many bytes

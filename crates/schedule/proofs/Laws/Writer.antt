@@ -7,7 +7,7 @@ use native.Mathlib.Omega.{arith}
 use lib.Dec.{eqb, leb, ltb}
 use lib.ListN.{length, drop, getD, length-append}
 use borrow.Author.Tests.{eq-eqb, eqb-true, le-ltb, leb-true, lt-ltb, ltb-false, ne-eqb, not-false}
-use Rattle.machine.proofs.Laws.Tests.{both-right}
+use Rattle.terms.proofs.Laws.Tests.{both-right}
 use Rattle.schedule.specs.Types.{Check, Failed, Passed, Refusal, Room, Short, Sizes, Written}
 use Rattle.schedule.specs.declared.writer.Writing.the-variants.{Refused}
 use Rattle.schedule.specs.Number.{allBelow, overwritten}

@@ -4,8 +4,8 @@ use mathlib.Core.Bool.{false, true}
 use borrow.Author.Needs.{needs}
 use borrow.Author.Tests.{le-leb, lt-leb}
 use lib.Dec.{leb·zero}
-use Rattle.machine.specs.Sizes.{within}
-use Rattle.machine.proofs.Laws.Tests.{by-test, known}
+use Rattle.terms.specs.Sizes.{within}
+use Rattle.terms.proofs.Laws.Tests.{by-test, known}
 use Rattle.schedule.specs.Types.{Failed, Passed, Size}
 use Rattle.schedule.proofs.Laws.Check.{ranges-found, ranges-kept}
 use Rattle.schedule.proofs.check.check_ranges.Statement.{statement}

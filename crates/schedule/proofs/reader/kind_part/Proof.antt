@@ -4,7 +4,7 @@ use Prim.Native.Nat.{_+_, _≤_}
 use native.Mathlib.Omega.{arith}
 use borrow.Author.Needs.{needs}
 use lib.ListN.{drop, length, take}
-use Rattle.machine.proofs.Laws.Tests.{known}
+use Rattle.terms.proofs.Laws.Tests.{known}
 use Rattle.schedule.specs.Reader.{behind, partOf, startOf}
 use Rattle.schedule.proofs.Laws.Reader.{accepted-holds, behind-none, part-of-length}
 use Rattle.schedule.proofs.reader.kind_part.Statement.{statement}

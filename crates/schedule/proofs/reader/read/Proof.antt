@@ -3,7 +3,7 @@ use mathlib.Core.Path.{_≡_, _∙_, ap, sym}
 use Prim.Native.Nat.{_+_, _*_}
 use borrow.Author.Needs.{needs}
 use lib.Dec.{lit<}
-use Rattle.machine.proofs.Laws.Tests.{known}
+use Rattle.terms.proofs.Laws.Tests.{known}
 use Rattle.schedule.specs.Types.{Accepted}
 use Rattle.schedule.specs.Check.{checkRanges}
 use Rattle.schedule.specs.Entries.{checkEntries}

@@ -1,7 +1,7 @@
 -- `check_writing` meets its contract: its tests are the writer's checks in their order.
 use mathlib.Core.Path.{sym}
 use borrow.Author.Needs.{needs}
-use Rattle.machine.proofs.Laws.Tests.{known}
+use Rattle.terms.proofs.Laws.Tests.{known}
 use Rattle.schedule.proofs.Laws.Writer.{writable-passes, write-faulty, write-no-room, write-out-of-range, write-short}
 use Rattle.schedule.proofs.writer.check_writing.Statement.{statement}
 use Rattle.schedule.proofs.writer.check_writing.Tie as tie

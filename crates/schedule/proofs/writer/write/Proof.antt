@@ -4,7 +4,7 @@ use Prim.Native.Nat.{_+_, _*_, _≤_}
 use native.Mathlib.Omega.{arith}
 use borrow.Author.Needs.{needs}
 use lib.ListN.{length}
-use Rattle.machine.proofs.Laws.Tests.{known}
+use Rattle.terms.proofs.Laws.Tests.{known}
 use Rattle.schedule.specs.Format.{fileOf}
 use Rattle.schedule.specs.Writer.{writingOf, bufferIf}
 use Rattle.schedule.proofs.Laws.Writer.{few-entries, passed-writable}

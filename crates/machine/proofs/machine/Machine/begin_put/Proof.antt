@@ -2,11 +2,11 @@
 use mathlib.Core.Path.{ap, sym, _∙_, _≡_}
 use mathlib.Core.Bool.{true, _&&_}
 use borrow.Author.Needs.{needs}
+use Rattle.terms.proofs.Laws.Tests.{by-test, denied, granted, known}
 use Rattle.machine.specs.Types.{BeginPut}
 use Rattle.machine.specs.InRange.{inRange}
 use Rattle.machine.specs.Obey.{obey, obeyInRange}
 use Rattle.machine.proofs.Laws.Obey.{obey-by}
-use Rattle.machine.proofs.Laws.Tests.{by-test, denied, granted, known}
 use Rattle.machine.proofs.machine.Machine.begin_put.Statement.{statement}
 use Rattle.machine.proofs.machine.Machine.begin_put.Tie as tie
 

@@ -1,10 +1,10 @@
 -- `Machine::begin_steal` meets its contract, by its tests.
 use mathlib.Core.Path.{sym, _∙_}
 use borrow.Author.Needs.{needs}
+use Rattle.terms.proofs.Laws.Tests.{by-test, denied, granted, known}
 use Rattle.machine.specs.Types.{BeginSteal}
 use Rattle.machine.proofs.Laws.InRange.{thief-ready}
 use Rattle.machine.proofs.Laws.Obey.{obey-by}
-use Rattle.machine.proofs.Laws.Tests.{by-test, denied, granted, known}
 use Rattle.machine.proofs.machine.Machine.begin_steal.Statement.{statement}
 use Rattle.machine.proofs.machine.Machine.begin_steal.Tie as tie
 

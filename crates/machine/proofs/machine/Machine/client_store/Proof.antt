@@ -4,6 +4,7 @@ use mathlib.Core.Bool.{true, _&&_}
 use native.Mathlib.Omega.{arith}
 use borrow.Author.Needs.{needs}
 use borrow.Author.Tests.{le-ltb, lt-ltb}
+use Rattle.terms.proofs.Laws.Tests.{by-test, denied, granted, known}
 use Rattle.machine.specs.Types.{ClientStore, Moved}
 use Rattle.machine.specs.Update.{withBuffer, withSpacing}
 use Rattle.machine.specs.Machine.{done}
@@ -11,7 +12,6 @@ use Rattle.machine.specs.InRange.{inRange}
 use Rattle.machine.specs.Obey.{obey, obeyInRange}
 use Rattle.machine.proofs.Laws.InRange.{bounds, room-below}
 use Rattle.machine.proofs.Laws.Obey.{obey-by}
-use Rattle.machine.proofs.Laws.Tests.{by-test, denied, granted, known}
 use Rattle.machine.proofs.machine.Machine.client_store.Statement.{statement}
 use Rattle.machine.proofs.machine.Machine.client_store.Tie as tie
 

@@ -4,12 +4,12 @@ use mathlib.Core.Bool.{not, true, _&&_}
 use native.Mathlib.Omega.{arith}
 use borrow.Author.Needs.{needs}
 use borrow.Author.Tests.{eq-eqb, ne-eqb}
+use Rattle.terms.proofs.Laws.Tests.{by-test, denied, granted}
 use Rattle.machine.specs.Types.{Drain}
 use Rattle.machine.specs.InRange.{inRange}
 use Rattle.machine.specs.Obey.{obey, obeyInRange}
 use Rattle.machine.proofs.Laws.InRange.{bounds, oldest-in-range}
 use Rattle.machine.proofs.Laws.Obey.{obey-by}
-use Rattle.machine.proofs.Laws.Tests.{by-test, denied, granted}
 use Rattle.machine.proofs.machine.Machine.drain.Statement.{statement}
 use Rattle.machine.proofs.machine.Machine.drain.Tie as tie
 

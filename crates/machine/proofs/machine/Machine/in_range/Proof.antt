@@ -11,16 +11,16 @@ returns c =
       c .both7 .ensures,
       c .before .thieves-in-range .ensures,
       c .before .before .both6 .ensures,
-      c .before .before .before .in-range5 .ensures,
+      c .before .before .before .in-range4 .ensures,
       c .before .before .before .before .both5 .ensures,
-      c .before .before .before .before .before .in-range4 .ensures,
+      c .before .before .before .before .before .in-range3 .ensures,
       c .before .before .before .before .before .before .both4 .ensures,
-      c .before .before .before .before .before .before .before .in-range3 .ensures,
+      c .before .before .before .before .before .before .before .in-range2 .ensures,
       c .before .before .before .before .before .before .before .before .both3 .ensures,
-      c .before .before .before .before .before .before .before .before .before .in-range2 .ensures,
+      c .before .before .before .before .before .before .before .before .before .in-range .ensures,
       c .before .before .before .before .before .before .before .before .before .before .both2 .ensures,
       c .before .before .before .before .before .before .before .before .before .before .before .before .both .ensures,
-      c .before .before .before .before .before .before .before .before .before .before .before .before .before .before .in-range .ensures,
+      c .before .before .before .before .before .before .before .before .before .before .before .before .before .before .sizes-in-range .ensures,
     )
 
 pub in-range-spec : {M : Type 1} → statement M

@@ -1,7 +1,7 @@
 -- `Machine::put_load_head` meets its contract, by its two tests.
 use borrow.Author.Needs.{needs}
+use Rattle.terms.proofs.Laws.Tests.{known}
 use Rattle.machine.proofs.Laws.InRange.{bounds, worker-tail-in-range}
-use Rattle.machine.proofs.Laws.Tests.{known}
 use Rattle.machine.proofs.machine.Machine.put_load_head.Statement.{statement}
 use Rattle.machine.proofs.machine.Machine.put_load_head.Tie as tie
 

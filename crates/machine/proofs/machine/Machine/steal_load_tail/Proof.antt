@@ -1,6 +1,6 @@
 -- `Machine::steal_load_tail` meets its contract, by whether the margin is kept.
 use borrow.Author.Needs.{needs}
-use Rattle.machine.proofs.Laws.Tests.{known}
+use Rattle.terms.proofs.Laws.Tests.{known}
 use Rattle.machine.proofs.machine.Machine.steal_load_tail.Statement.{statement}
 use Rattle.machine.proofs.machine.Machine.steal_load_tail.Tie as tie
 

@@ -1,6 +1,6 @@
 -- `Machine::steal_lock` meets its contract, by whether the lock is free.
 use borrow.Author.Needs.{needs}
-use Rattle.machine.proofs.Laws.Tests.{known}
+use Rattle.terms.proofs.Laws.Tests.{known}
 use Rattle.machine.proofs.machine.Machine.steal_lock.Statement.{statement}
 use Rattle.machine.proofs.machine.Machine.steal_lock.Tie as tie
 

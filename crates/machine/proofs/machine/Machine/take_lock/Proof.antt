@@ -1,6 +1,6 @@
 -- `Machine::take_lock` meets its contract, by its test.
 use borrow.Author.Needs.{needs}
-use Rattle.machine.proofs.Laws.Tests.{known}
+use Rattle.terms.proofs.Laws.Tests.{known}
 use Rattle.machine.proofs.machine.Machine.take_lock.Statement.{statement}
 use Rattle.machine.proofs.machine.Machine.take_lock.Tie as tie
 

@@ -1,6 +1,6 @@
 -- `Machine::take_reload_head` meets its contract, by its test.
 use borrow.Author.Needs.{needs}
-use Rattle.machine.proofs.Laws.Tests.{known}
+use Rattle.terms.proofs.Laws.Tests.{known}
 use Rattle.machine.proofs.machine.Machine.take_reload_head.Statement.{statement}
 use Rattle.machine.proofs.machine.Machine.take_reload_head.Tie as tie
 

@@ -4,10 +4,10 @@ use mathlib.Core.Bool.{true}
 use types.Run.{OneOf, miss}
 use denote.Enum.Declared.{tagOf}
 use borrow.Author.Needs.{needs}
+use Rattle.terms.proofs.Laws.Tests.{known}
 use Rattle.machine.specs.Types.{ThiefCall, StealLock, StealLoadHead, StealRaiseHead, StealLoadTail, StealLoadSlot, StealUnlockTask, StealRestoreHead, StealUnlockAbort}
 use Rattle.machine.specs.Lists.{upFrom}
 use Rattle.machine.specs.Thief.{thiefRuns}
-use Rattle.machine.proofs.Laws.Tests.{known}
 use Rattle.machine.proofs.thief.ThiefCall.{the-type}
 use Rattle.machine.proofs.machine.Machine.thief_runs.Statement.{statement}
 use Rattle.machine.proofs.machine.Machine.thief_runs.Tie as tie

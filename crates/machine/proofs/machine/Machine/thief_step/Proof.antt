@@ -3,6 +3,7 @@ use mathlib.Core.Path.{_≡_, ap, sym, _∙_}
 use mathlib.Core.Bool.{true}
 use Prim.Native.Nat.{ℕ}
 use borrow.Author.Needs.{needs}
+use Rattle.terms.proofs.Laws.Tests.{denied, granted, known}
 use Rattle.machine.specs.Types.{Machine, ThiefCall, ThiefStep}
 use Rattle.machine.specs.Machine.{thiefCall}
 use Rattle.machine.specs.InRange.{thiefInRange}
@@ -10,7 +11,6 @@ use Rattle.machine.specs.Thief.{stepOfThief}
 use Rattle.machine.specs.Obey.{obey}
 use Rattle.machine.proofs.Laws.InRange.{ThiefReady, bounds, thief-ready}
 use Rattle.machine.proofs.Laws.Obey.{obey-by}
-use Rattle.machine.proofs.Laws.Tests.{denied, granted, known}
 use Rattle.machine.proofs.machine.Machine.thief_step.Statement.{statement}
 use Rattle.machine.proofs.machine.Machine.thief_step.Tie as tie
 

@@ -2,13 +2,13 @@
 use mathlib.Core.Path.{_≡_, ap, sym, _∙_}
 use mathlib.Core.Bool.{true, _&&_}
 use borrow.Author.Needs.{needs}
+use Rattle.terms.proofs.Laws.Tests.{denied, granted, known}
 use Rattle.machine.specs.Types.{Machine, WorkerCall, WorkerStep}
 use Rattle.machine.specs.InRange.{inRange, workerInRange}
 use Rattle.machine.specs.Worker.{stepOfWorker}
 use Rattle.machine.specs.Obey.{obey}
 use Rattle.machine.proofs.Laws.InRange.{bounds}
 use Rattle.machine.proofs.Laws.Obey.{obey-by}
-use Rattle.machine.proofs.Laws.Tests.{denied, granted, known}
 use Rattle.machine.proofs.machine.Machine.worker_step.Statement.{statement}
 use Rattle.machine.proofs.machine.Machine.worker_step.Tie as tie
 

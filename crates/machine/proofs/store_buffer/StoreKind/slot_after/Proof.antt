@@ -1,8 +1,8 @@
 -- `StoreKind::slot_after` meets its contract, kind by kind. A slot store in range has an index that is not below 0.
 use mathlib.Core.Path.{ap, sym, _∙_}
 use borrow.Author.Needs.{needs}
+use Rattle.terms.proofs.Laws.Tests.{both-left}
 use Rattle.machine.specs.InRange.{storeInRange}
-use Rattle.machine.proofs.Laws.Tests.{both-left}
 use Rattle.machine.proofs.store_buffer.StoreKind.slot_after.Statement.{statement}
 use Rattle.machine.proofs.store_buffer.StoreKind.slot_after.Tie as tie
 

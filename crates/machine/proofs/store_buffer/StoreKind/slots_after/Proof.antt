@@ -6,9 +6,9 @@ use native.Mathlib.Omega.{arith}
 use lib.IntN.{pos}
 use lib.Signed.{leZ}
 use borrow.Author.Needs.{needs}
+use Rattle.terms.proofs.Laws.Tests.{both-left}
 use Rattle.machine.proofs.Laws.Index.{slotOf-below}
 use Rattle.machine.specs.InRange.{storeInRange}
-use Rattle.machine.proofs.Laws.Tests.{both-left}
 use Rattle.machine.proofs.store_buffer.StoreKind.slots_after.Statement.{statement}
 use Rattle.machine.proofs.store_buffer.StoreKind.slots_after.Tie as tie
 

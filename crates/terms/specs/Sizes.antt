@@ -4,7 +4,7 @@ use mathlib.Core.Bool.{Bool, true, false, cond, _&&_}
 use mathlib.Core.List.{List, [], _∷_}
 use Prim.Native.Nat.{ℕ, _+_, _-_, _/_}
 use lib.Dec.{leb, eqb}
-use Rattle.machine.specs.Types.{Sizes, SizeCheck, AllInRange, OutOfRange}
+use Rattle.terms.specs.Types.{Sizes, SizeCheck, AllInRange, OutOfRange}
 
 -- a number is neither below the least nor above the greatest
 abbrev pub within : ℕ → ℕ → ℕ → Bool

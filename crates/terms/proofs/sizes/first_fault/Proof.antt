@@ -1,8 +1,8 @@
 -- `first_fault` meets its contract, by what `within` answers.
 use borrow.Author.Needs.{needs}
-use Rattle.machine.proofs.Laws.Tests.{known}
-use Rattle.machine.proofs.sizes.first_fault.Statement.{statement}
-use Rattle.machine.proofs.sizes.first_fault.Tie as tie
+use Rattle.terms.proofs.Laws.Tests.{known}
+use Rattle.terms.proofs.sizes.first_fault.Statement.{statement}
+use Rattle.terms.proofs.sizes.first_fault.Tie as tie
 
 within-requires : tie.Need-within-requires
 within-requires c κs = search needs

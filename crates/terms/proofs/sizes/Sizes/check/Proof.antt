@@ -1,7 +1,7 @@
 -- `Sizes::check` meets its contract: the calls are composed as the definition is.
 use borrow.Author.Needs.{needs}
-use Rattle.machine.proofs.sizes.Sizes.check.Statement.{statement}
-use Rattle.machine.proofs.sizes.Sizes.check.Tie as tie
+use Rattle.terms.proofs.sizes.Sizes.check.Statement.{statement}
+use Rattle.terms.proofs.sizes.Sizes.check.Tie as tie
 
 returns : tie.Need-returns
 returns c =

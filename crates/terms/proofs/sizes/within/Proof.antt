@@ -1,7 +1,7 @@
 -- `within` meets its contract: the first test decides, and then the second is the answer.
 use borrow.Author.Tests.{le-leb, lt-leb}
-use Rattle.machine.proofs.sizes.within.Statement.{statement}
-use Rattle.machine.proofs.sizes.within.Tie as tie
+use Rattle.terms.proofs.sizes.within.Statement.{statement}
+use Rattle.terms.proofs.sizes.within.Tie as tie
 
 returns : tie.Need-returns
 returns c = simp (le-leb _ _ (c .if1 .taken))

@@ -2,9 +2,9 @@
 use native.Mathlib.Nat.{lt-of-le-of-lt}
 use native.Mathlib.Omega.{arith}
 use borrow.Author.Needs.{needs}
-use Rattle.machine.proofs.Laws.Sizes.{add-div-le}
-use Rattle.machine.proofs.sizes.needed_margin.Statement.{statement}
-use Rattle.machine.proofs.sizes.needed_margin.Tie as tie
+use Rattle.terms.proofs.Laws.Sizes.{add-div-le}
+use Rattle.terms.proofs.sizes.needed_margin.Statement.{statement}
+use Rattle.terms.proofs.sizes.needed_margin.Tie as tie
 
 add-apart : tie.Need-add-apart
 add-apart c = search needs

@@ -1,7 +1,7 @@
 -- `Sizes::margin_in_use` meets its contract, by whether the margin is 0.
 use borrow.Author.Tests.{eq-eqb, ne-eqb}
-use Rattle.machine.proofs.sizes.Sizes.margin_in_use.Statement.{statement}
-use Rattle.machine.proofs.sizes.Sizes.margin_in_use.Tie as tie
+use Rattle.terms.proofs.sizes.Sizes.margin_in_use.Statement.{statement}
+use Rattle.terms.proofs.sizes.Sizes.margin_in_use.Tie as tie
 
 returns : tie.Need-returns
 returns c = simp (eq-eqb _ _ (c .if1 .taken))

@@ -1,5 +1,5 @@
 ghost use mathlib.Core.Path.{_≡_};
-ghost use Rattle.machine.specs.Outcome.{numberOf, valueOf};
+ghost use Rattle.terms.specs.Outcome.{numberOf, valueOf};
 
 // What an entry comes to.
 pub enum Outcome {

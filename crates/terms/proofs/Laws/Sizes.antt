@@ -8,9 +8,9 @@ use native.Mathlib.Omega.{arith}
 use lib.Dec.{eqb, leb}
 use lib.ListN.{getD}
 use borrow.Author.Tests.{eqb-false, leb-true}
-use Rattle.machine.specs.Types.{Sizes}
-use Rattle.machine.specs.Sizes.{divideUp, firstFault, marginInUse, noFault, rangesKept, sizesInRange, within}
-use Rattle.machine.proofs.Laws.Tests.{both-left, both-right}
+use Rattle.terms.specs.Types.{Sizes}
+use Rattle.terms.specs.Sizes.{divideUp, firstFault, marginInUse, noFault, rangesKept, sizesInRange, within}
+use Rattle.terms.proofs.Laws.Tests.{both-left, both-right}
 
 -- a quotient that is rounded up, by less than a whole, is at most the number itself
 pub add-div-le : (n x d : ℕ) → x < d → (n + x) / d ≤ n

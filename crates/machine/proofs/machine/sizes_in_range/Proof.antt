@@ -1,10 +1,10 @@
--- `Sizes::in_range` meets its contract, by the cases of what `check` answers.
+-- `sizes_in_range` meets its contract, by the cases of what `check` answers.
 use mathlib.Core.Path.{sym, ap}
 use borrow.Author.Needs.{needs}
-use Rattle.machine.specs.Sizes.{noFault}
-use Rattle.machine.proofs.Laws.Tests.{known}
-use Rattle.machine.proofs.sizes.Sizes.in_range.Statement.{statement}
-use Rattle.machine.proofs.sizes.Sizes.in_range.Tie as tie
+use Rattle.terms.specs.Sizes.{noFault}
+use Rattle.terms.proofs.Laws.Tests.{known}
+use Rattle.machine.proofs.machine.sizes_in_range.Statement.{statement}
+use Rattle.machine.proofs.machine.sizes_in_range.Tie as tie
 
 check-requires : tie.Need-check-requires
 check-requires c κs = search needs
@@ -21,5 +21,5 @@ returns c = sym (ap noFault (known (c .before .before .check .ensures) (c .enum-
 returns-2 : tie.Need-returns-2
 returns-2 c = sym (ap noFault (known (c .before .before .check .ensures) (c .enum-told2 .given .1)))
 
-pub in-range-spec : {M : Type 1} → statement M
-in-range-spec = tie.close (tie.spec check-requires enum-told enum-told-2 returns returns-2)
+pub sizes-in-range-spec : {M : Type 1} → statement M
+sizes-in-range-spec = tie.close (tie.spec check-requires enum-told enum-told-2 returns returns-2)
