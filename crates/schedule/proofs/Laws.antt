@@ -6,3 +6,8 @@ pub mod Check
 pub mod Entries
 pub mod Reader
 pub mod Writer
+pub mod Trace
+pub mod Run
+pub mod Obeyed
+pub mod Comparison
+pub mod Alike

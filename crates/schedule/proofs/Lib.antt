@@ -2,3 +2,6 @@ pub mod Laws
 pub mod Edges
 pub mod Faults
 pub mod RoundTrip
+pub mod Totals
+pub mod Demand3
+pub mod AlikeExactly

@@ -8,6 +8,12 @@
 -- kinds, operands; KIND and WHO         Entries
 -- reading: the order of its checks      Reader
 -- writing: the order of its checks      Writer
+-- the three totals                      Tally
+-- the trace, and what stands in it      Trace
+-- running a file, and one step          Run
+-- demand 3 of a trace                   Demand3
+-- alike schedules                       Alike
+-- how two traces are compared           Comparison
 -- what is refused, and for what         Faults
 -- reading what was written, and back    RoundTrip
 -- files at their edges, as a table      Edges
@@ -19,6 +25,12 @@ pub mod Format
 pub mod Entries
 pub mod Reader
 pub mod Writer
+pub mod Tally
+pub mod Trace
+pub mod Run
+pub mod Demand3
+pub mod Alike
+pub mod Comparison
 pub mod Faults
 pub mod RoundTrip
 pub mod Edges

@@ -4,7 +4,7 @@ use mathlib.Core.List.{List, [], _∷_}
 use Prim.Native.Nat.{ℕ, _+_}
 use lib.Dec.{eqb, ltb}
 use lib.ListN.{length, drop, take}
-use Rattle.schedule.specs.Types.{Accepted, Check, Failed, Passed, Reading, Short}
+use Rattle.schedule.specs.Types.{Accepted, Check, Failed, Passed, Reading, Refusal, Short}
 use Rattle.schedule.specs.declared.reader.Reading.the-variants as reading
 use Rattle.schedule.specs.Check.{checkRanges, failIf, first}
 use Rattle.schedule.specs.Entries.{checkEntries}
@@ -26,6 +26,11 @@ readingOf file (Failed r) = reading.Refused r
 -- what reading a file comes to: its sizes and the number of its entries, or the refusal
 abbrev pub readFile : List ℕ → Reading
 readFile file = readingOf file (first (readingChecks file))
+
+-- the refusal that a reading is; an accepted file has none, and SHORT stands here in its place
+abbrev pub refusalOf : Reading → Refusal
+refusalOf (Accepted s entries) = Short
+refusalOf (reading.Refused r) = r
 
 -- ── Parts of the caller's bytes ─────────────────────────────────────────────────────────────────────────────────────────────
 

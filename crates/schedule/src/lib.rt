@@ -16,18 +16,28 @@
 // - `reader`, `writer`: a file as a whole.
 mod check;
 mod entries;
+mod likeness;
 mod number;
 mod reader;
 mod refusal;
+mod runner;
+mod tally;
 mod writer;
 
 pub use entries::Meaning;
 pub use entries::entry_at;
 pub use entries::entry_of;
+pub use likeness::Likeness;
+pub use likeness::alike;
 pub use reader::Reading;
 pub use reader::kind_part;
 pub use reader::operand_part;
 pub use reader::read;
 pub use refusal::Refusal;
+pub use runner::Running;
+pub use runner::Stepped;
+pub use runner::run;
+pub use runner::step;
+pub use tally::Tally;
 pub use writer::Writing;
 pub use writer::write;

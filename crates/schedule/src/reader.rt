@@ -2,7 +2,7 @@ ghost use mathlib.Core.Path.{_≡_};
 ghost use Prim.Native.Nat.{_≤_};
 ghost use lib.ListN.{length};
 ghost use Rattle.schedule.specs.Format.{sizesIn};
-ghost use Rattle.schedule.specs.Reader.{behind, kindPart, kindStart, operandPart, operandStart, readFile};
+ghost use Rattle.schedule.specs.Reader.{behind, kindPart, kindStart, operandPart, operandStart, readFile, refusalOf};
 use crate::check::Check;
 use crate::check::check_ranges;
 use crate::entries::check_part;
@@ -60,6 +60,16 @@ pub fn read(file: &[u8]) -> Reading
     match steps {
         Check::Passed => Reading::Accepted(sizes, entries),
         Check::Failed(refusal) => Reading::Refused(refusal),
+    }
+}
+
+// The refusal that a reading is. An accepted file has none, and nobody asks for it.
+pub(crate) fn refusal_of(reading: Reading) -> Refusal
+    ensures { λ r. ⌜ r ≡ refusalOf reading ⌝ }
+{
+    match reading {
+        Reading::Accepted(_, _) => Refusal::Short,
+        Reading::Refused(refusal) => refusal,
     }
 }
 

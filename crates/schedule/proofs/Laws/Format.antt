@@ -8,14 +8,14 @@ use native.Mathlib.Omega.{arith}
 use lib.Dec.{ltb}
 use lib.ListN.{length, drop, getD, replicate, take, length-append, length-drop, length-replicate, take-append-drop}
 use lib.Seq.{drop-at, drop-drop, length-take-le, take-at}
-use borrow.Author.Tests.{ltb-true}
+use borrow.Author.Tests.{lt-ltb, ltb-true}
 use Rattle.terms.proofs.Laws.Tests.{both-left, both-right}
 use Rattle.machine.proofs.Laws.Sums.{sumOf, sumOf-append}
 use Rattle.schedule.specs.Types.{Sizes}
 use Rattle.schedule.specs.Number.{littleEndian, ofBytes}
 use Rattle.schedule.specs.Format.{decode, encode, fileOf, kindsIn, layout, operandsIn, sizeBytes, sizeNumbers, wordBytes, wordsIn}
 use Rattle.schedule.specs.Number.{allBelow}
-use Rattle.schedule.proofs.Laws.Number.{allBelow-drop, allBelow-take, length-littleEndian, littleEndian-ofBytes, ofBytes-littleEndian}
+use Rattle.schedule.proofs.Laws.Number.{allBelow-drop, allBelow-take, length-littleEndian, littleEndian-ofBytes, ofBytes-below, ofBytes-littleEndian}
 
 -- ── Any layout ──────────────────────────────────────────────────────────────────────────────────────────────────────────────
 
@@ -117,6 +117,12 @@ getD-words (suc n) zero bs h = refl
 getD-words (suc n) (suc i) bs h =
     let next : 4 + 4 * i ≡ 4 * suc i = omega arith in
     getD-words n i (drop 4 bs) (le-of-suc-le-suc h) ∙ ap (λ l. ofBytes (take 4 l)) (drop-drop (4 * i) 4 bs ∙ ap (λ k. drop k bs) next)
+
+-- numbers that so many bytes are fit so many bytes
+pub decode-below : (n w : ℕ) (bs : List ℕ) → allBelow 256 bs ≡ true → allBelow (256 ^ w) (decode (replicate n w) bs) ≡ true
+decode-below zero w bs below = refl
+decode-below (suc n) w bs below =
+    rw (lt-ltb (ofBytes (take w bs)) (256 ^ w) (ofBytes-below w bs below)) (decode-below n w (drop w bs) (allBelow-drop 256 w bs below))
 
 -- numbers of four bytes each have four times as many bytes
 pub length-wordBytes : (l : List ℕ) → length (wordBytes l) ≡ 4 * length l

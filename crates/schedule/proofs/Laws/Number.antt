@@ -6,9 +6,10 @@ use Prim.Native.Nat.{ℕ, zero, suc, _+_, _*_, _/_, _%_, _^_, _<_}
 use native.Mathlib.Nat.{div-lt-iff-lt-mul, mod-add-div, pow-suc}
 use native.Mathlib.Omega.{arith}
 use lib.Dec.{ltb}
-use lib.ListN.{drop, length, take}
-use borrow.Author.Tests.{ltb-true}
+use lib.ListN.{drop, getD, length, take}
+use borrow.Author.Tests.{lt-ltb, ltb-true}
 use Rattle.terms.proofs.Laws.Tests.{both-left, both-right}
+use Rattle.machine.proofs.Laws.Lists.{all-each}
 use Rattle.schedule.specs.Number.{allBelow, littleEndian, ofBytes}
 
 -- a number in so many bytes is so many bytes
@@ -43,3 +44,15 @@ pub allBelow-drop : (bound n : ℕ) (l : List ℕ) → allBelow bound l ≡ true
 allBelow-drop bound zero l below = below
 allBelow-drop bound (suc n) [] below = refl
 allBelow-drop bound (suc n) (b ∷ l) below = allBelow-drop bound n l (both-right (ltb b bound) (allBelow bound l) below)
+
+-- the number that w bytes are, or fewer, fits w bytes
+pub ofBytes-below : (w : ℕ) (l : List ℕ) → allBelow 256 l ≡ true → ofBytes (take w l) < 256 ^ w
+ofBytes-below zero l below = omega arith
+ofBytes-below (suc w) [] below = rw pow-suc (omega (arith, ofBytes-below w [] refl))
+ofBytes-below (suc w) (b ∷ l) below =
+    let byte : b < 256 = ltb-true b 256 (both-left (ltb b 256) (allBelow 256 l) below) in
+    rw pow-suc (omega (arith, ofBytes-below w l (both-right (ltb b 256) (allBelow 256 l) below)))
+
+-- where each number of a list is below a bound, all are
+pub each-below : (bound : ℕ) (l : List ℕ) → ((i : ℕ) → getD l i 0 < bound) → allBelow bound l ≡ true
+each-below bound l each = all-each (λ n. ltb n bound) l 0 (λ i. lt-ltb (getD l i 0) bound (each i))

@@ -1,16 +1,25 @@
--- Laws of a list that is overwritten from a place on: with nothing, by four stores, and one part right behind another.
-use mathlib.Core.Path.{_≡_}
+-- Laws of a list that is overwritten from a place on: with nothing, by one store and by four, one part right behind another, and two parts in either order.
+use mathlib.Core.Path.{_≡_, ap, sym, _∙_}
 use mathlib.Core.List.{List, [], _∷_, _++_, append-assoc}
-use Prim.Native.Nat.{ℕ, _+_, _≤_}
+use Prim.Native.Nat.{ℕ, _+_, _≤_, _<_}
 use native.Mathlib.Nat.{add-assoc}
 use native.Mathlib.Numerals.{add-one, add-three, add-two}
-use lib.ListN.{length, drop, length-append, set, take}
-use lib.Seq.{drop-at, drop-drop, length-take-le, paste-zero, sets-eq, take-at}
+use native.Mathlib.Omega.{arith}
+use lib.ListN.{length, drop, length-append, set, take, take-append-drop}
+use lib.Seq.{drop-append-le, drop-at, drop-drop, length-sets, length-take-le, paste-zero, sets-eq, take-append-le, take-at}
 use Rattle.schedule.specs.Number.{overwritten}
 
 -- a list overwritten with nothing is as it was
 pub overwritten-nothing : (at : ℕ) (l : List ℕ) → l ≡ overwritten at [] l
 overwritten-nothing at l = paste-zero l at []
+
+-- what is overwritten inside a list leaves it as long as it was
+pub length-overwritten : (at : ℕ) (new l : List ℕ) → at + length new ≤ length l → length (overwritten at new l) ≡ length l
+length-overwritten at new l fits = ap length (sym (sets-eq new l at fits)) ∙ length-sets l at new
+
+-- a store at a place overwrites this
+pub overwritten-one : (at x : ℕ) (l : List ℕ) → at < length l → set l at x ≡ overwritten at (x ∷ []) l
+overwritten-one at x l inside = sets-eq (x ∷ []) l at (omega arith)
 
 -- stores at four places, one behind the other, overwrite these
 pub overwritten-four : (at a b c d : ℕ) (l : List ℕ) → at + 4 ≤ length l
@@ -27,3 +36,25 @@ module _ (at : ℕ) (new l : List ℕ) where
       let front-ends : length front ≡ end = simp (length-append, length-take-le at l inside) in
       rw (take-at front (drop end l) end front-ends, ← drop-drop (length more) end, drop-at front (drop end l) end front-ends)
       (simp (drop-drop, append-assoc, length-append, add-assoc))
+
+-- what is overwritten inside the front of a list leaves the rest
+overwritten-front : (at : ℕ) (new front rest : List ℕ) → at + length new ≤ length front
+    → overwritten at new (front ++ rest) ≡ overwritten at new front ++ rest
+overwritten-front at new front rest fits =
+    rw (take-append-le at front rest (omega arith), drop-append-le (at + length new) front rest fits)
+    (sym (append-assoc (take at front ++ new) (drop (at + length new) front) rest))
+
+-- two parts that lie apart can be overwritten in either order
+pub overwritten-apart : (a b : ℕ) (x y l : List ℕ) → a + length x ≤ b → b ≤ length l
+    → overwritten a x (overwritten b y l) ≡ overwritten b y (overwritten a x l)
+overwritten-apart a b x y l apart inside =
+    let front = take b l in
+    let new = overwritten a x front in
+    let front-ends : length front ≡ b = length-take-le b l inside in
+    let fits : a + length x ≤ length front = omega arith in
+    let new-ends : length new ≡ b = length-overwritten a x front fits ∙ front-ends in
+    let first : overwritten a x l ≡ new ++ drop b l = ap (overwritten a x) (sym (take-append-drop b l)) ∙ overwritten-front a x front (drop b l) fits in
+    ap (overwritten a x) (append-assoc front y (drop (b + length y) l))
+    ∙ overwritten-front a x front (y ++ drop (b + length y) l) fits
+    ∙ sym (append-assoc new y (drop (b + length y) l))
+    ∙ sym (ap (overwritten b y) first ∙ rw (take-at new (drop b l) b new-ends, ← drop-drop (length y) b (new ++ drop b l), drop-at new (drop b l) b new-ends) (ap (λ r. new ++ y ++ r) (drop-drop (length y) b l)))

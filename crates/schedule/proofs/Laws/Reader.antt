@@ -55,13 +55,18 @@ module _ (file : List ℕ) where
       }
 
   -- the two parts from 28 on and from 28 + entries on are the file's arrays
+
+  pub kinds-part : (n : ℕ) → 28 + n ≤ length file → take (28 + n - 28) (drop 28 file) ≡ kindsIn n file
+  kinds-part n there = part-of-length 28 n file ∙ sym (kindsIn-part n file there)
+
+  pub operands-part : (n : ℕ) → length file ≡ 28 + 5 * n → wordsIn (take (length file - (28 + n)) (drop (28 + n) file)) ≡ operandsIn n file
+  operands-part n whole = ap wordsIn (part-to-end (28 + n) file) ∙ sym (operandsIn-part n file whole)
+
   pub parts-checked : (s : Sizes) (n : ℕ) → s ≡ sizesIn file → n ≡ entriesIn file → length file ≡ 28 + 5 * n
       → checkEntries (s .thieves) (take (28 + n - 28) (drop 28 file)) (wordsIn (take (length file - (28 + n)) (drop (28 + n) file)))
       ≡ checkEntries (sizesIn file .thieves) (kindsIn (entriesIn file) file) (operandsIn (entriesIn file) file)
   parts-checked s n sizes entries whole =
-      let kinds = part-of-length 28 n file ∙ sym (kindsIn-part n file (omega arith)) in
-      let operands = ap wordsIn (part-to-end (28 + n) file) ∙ sym (operandsIn-part n file whole) in
-      (λ i. checkEntries (s .thieves) (kinds i) (operands i)) ∙ (λ i. checkEntries (sizes i .thieves) (kindsIn (entries i) file) (operandsIn (entries i) file))
+      (λ i. checkEntries (s .thieves) (kinds-part n (omega arith) i) (operands-part n whole i)) ∙ (λ i. checkEntries (sizes i .thieves) (kindsIn (entries i) file) (operandsIn (entries i) file))
 
   -- which check decides, where it is not the last
 
@@ -128,6 +133,10 @@ module _ (file : List ℕ) where
       go Passed found told = absurd (not-both-read told)
       go (Failed q) found told = let failed = first-failed (readingChecks file) r (found ∙ cc) in (failed .0, failed .1 .1)
 
-  -- the kinds of an accepted file lie within it
+  -- an accepted file is as long as its number of entries says, and its kinds lie within it
+
+  pub accepted-long : (s : Sizes) (entries : ℕ) → readFile file ≡ Accepted s entries → length file ≡ 28 + 5 * entries
+  accepted-long s entries accepted = let read = accepted-readable s entries accepted in omega (arith, read .1 .0, read .1 .1 .long)
+
   pub accepted-holds : (s : Sizes) (entries : ℕ) → readFile file ≡ Accepted s entries → 28 + entries ≤ length file
-  accepted-holds s entries accepted = let read = accepted-readable s entries accepted in omega (arith, read .1 .0, read .1 .1 .long)
+  accepted-holds s entries accepted = omega (arith, accepted-long s entries accepted)

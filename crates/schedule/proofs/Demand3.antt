@@ -1,0 +1,103 @@
+-- Demand 3 of a trace that was written: the lower library's claim, of the file's entries, and the answers in the trace's bytes, which are those of the outcomes.
+use mathlib.Core.Path.{_≡_, refl, ap, subst, sym, _∙_}
+use mathlib.Core.Bool.{Bool, true, false, cond}
+use mathlib.Core.List.{List, [], _∷_, _++_, map, map-map}
+use Prim.Native.Nat.{ℕ, _≤_}
+use native.Mathlib.Omega.{arith}
+use lib.Dec.{leb}
+use lib.ListN.{length}
+use borrow.Author.Tests.{leb-true}
+use Rattle.terms.specs.Outcome.{isAnswer, valueOf}
+use Rattle.terms.proofs.Laws.Tests.{both-right}
+use Rattle.machine.specs.Effect.{Event, events, watchFresh}
+use Rattle.machine.specs.Linearizable.{Linearizable, answering, answersTo}
+use Rattle.machine.specs.Lists.{gather}
+use Rattle.machine.specs.Machine.{fresh}
+use Rattle.machine.specs.Obey.{outcomesOf}
+use Rattle.machine.proofs.Linearizable.Theorem.{demand3}
+use Rattle.machine.proofs.Linearizable.Watched.{events-outcomes}
+use Rattle.schedule.specs.Types.{Accepted, Entry, Outcome, Ran, Reading, Refusal, Running, Sizes, Tally}
+use Rattle.schedule.specs.declared.reader.Reading.the-variants as reading
+use Rattle.schedule.specs.declared.runner.Running.the-variants as running
+use Rattle.schedule.specs.Demand3.{RunLinearizes, TraceLinearizes, answerIn, answersIn, plainAnswers}
+use Rattle.schedule.specs.Format.{entriesIn, sizesIn}
+use Rattle.schedule.specs.Number.{allBelow, overwritten}
+use Rattle.schedule.specs.Reader.{readFile}
+use Rattle.schedule.specs.Run.{outcomesIn, runFile, runningOf, scheduleIn, traceAfter, traceIf}
+use Rattle.schedule.specs.Trace.{Line, lineOf, traceOf}
+use Rattle.schedule.proofs.Laws.Check.{ranges-passed, ranges-sizes}
+use Rattle.schedule.proofs.Laws.Reader.{accepted-readable}
+use Rattle.schedule.proofs.Laws.Trace.{answersIn-written}
+use Rattle.schedule.proofs.Laws.Run.{file-values-fit, length-outcomesOf, schedule-length}
+
+-- ── Answers ─────────────────────────────────────────────────────────────────────────────────────────────────────────────────
+
+-- the answers among the outcomes of a run are the outcomes of the events that answer
+answers-of-events : (h : List Event)
+    → map (λ l. l ∷ []) (gather (λ o. answerIn (lineOf o)) (map (λ v. v .outcome) h)) ≡ map (λ v. lineOf (v .outcome) ∷ []) (answering h)
+answers-of-events [] = refl
+answers-of-events (v ∷ h) =
+    go (isAnswer (v .outcome)) (gather (λ o. answerIn (lineOf o)) (map (λ v. v .outcome) h)) (answering h) (answers-of-events h)
+  where
+    go : (answers : Bool) (ls : List Line) (vs : List Event) → map (λ l. l ∷ []) ls ≡ map (λ v. lineOf (v .outcome) ∷ []) vs
+        → map (λ l. l ∷ []) (cond answers (lineOf (v .outcome) ∷ []) [] ++ ls) ≡ map (λ v. lineOf (v .outcome) ∷ []) (cond answers (v ∷ []) [] ++ vs)
+    go true ls vs e = ap (λ r. (lineOf (v .outcome) ∷ []) ∷ r) e
+    go false ls vs e = e
+
+-- .. which are the plain queue's, where demand 3 is true
+answers-plain : (s : Sizes) (es : List Entry) → Linearizable s es
+    → map (λ l. l ∷ []) (gather (λ o. answerIn (lineOf o)) (outcomesOf (fresh s) es)) ≡ plainAnswers s es
+answers-plain s es claim =
+    let h = events (watchFresh s) es in
+    ap (λ os. map (λ l. l ∷ []) (gather (λ o. answerIn (lineOf o)) os)) (sym (events-outcomes (watchFresh s) es))
+    ∙ answers-of-events h
+    ∙ sym (map-map (map lineOf) (λ v. v .outcome ∷ []) (answering h))
+    ∙ ap (map (map lineOf)) (sym (claim .answers))
+    ∙ map-map (map lineOf) (λ v. answersTo (v .call)) (answering h)
+
+-- ── A file that was run ─────────────────────────────────────────────────────────────────────────────────────────────────────
+
+-- a file is not both run and refused
+not-both-run : {t : Tally} {r : Refusal} → running.Refused r ≡ Ran t → ⊥
+not-both-run e = let clash : _≡_ {A = ℕ} 0 1 = cc in omega arith
+
+-- what was run was accepted
+ran-accepted : (file : List ℕ) (room : ℕ) (t : Tally) → runFile file room ≡ Ran t → readFile file ≡ Accepted (sizesIn file) (entriesIn file)
+ran-accepted file room t e = go (readFile file) refl e
+  where
+    go : (r : Reading) → readFile file ≡ r → runningOf file room r ≡ Ran t → readFile file ≡ Accepted (sizesIn file) (entriesIn file)
+    go (Accepted s n) read ran = let known = accepted-readable file s n read in read ∙ (λ i. Accepted (known .0 i) (known .1 .0 i))
+    go (reading.Refused r) read ran = absurd (not-both-run ran)
+
+pub run-linearizes : (file trace : List ℕ) → allBelow 256 file ≡ true → RunLinearizes file (traceAfter file trace) (runFile file (length trace))
+run-linearizes file trace bytes t ran margin =
+    let s = sizesIn file in
+    let n = entriesIn file in
+    let es = scheduleIn file in
+    let os = outcomesIn file in
+    let accepted = ran-accepted file (length trace) t ran in
+    let readable = accepted-readable file s n accepted .1 .1 in
+    let few : n ≤ 4096 = leb-true n 4096 (both-right (leb 0 n) (leb n 4096) (ranges-passed s n (readable .ranges) 6)) in
+    let long : length es ≡ n = schedule-length file s n accepted in
+    let as-long : length os ≡ n = length-outcomesOf (fresh s) es ∙ long in
+    let claim : Linearizable s es = demand3 s es (ranges-sizes s n (readable .ranges)) margin (omega arith) in
+    record {
+      answers =
+          ap (λ r. map (λ l. l ∷ []) (answersIn n (traceIf (traceOf os) trace r))) ran
+          ∙ ap (λ k. map (λ l. l ∷ []) (answersIn k (overwritten 0 (traceOf os) trace))) (sym as-long)
+          ∙ ap (map (λ l. l ∷ [])) (answersIn-written os trace (file-values-fit file bytes))
+          ∙ answers-plain s es claim;
+      linearizable = claim;
+    }
+
+-- what `run` promises, of the answer and the buffer that it hands back
+pub run-promises : (file trace : List ℕ) → allBelow 256 file ≡ true → (answer : Running) (after : List ℕ)
+    → answer ≡ runFile file (length trace) → after ≡ traceAfter file trace
+    → (answer ≡ runFile file (length trace)) × ((after ≡ traceAfter file trace) × RunLinearizes file after answer)
+run-promises file trace bytes answer after told held = (
+  told,
+  (
+    held,
+    λ t ran enough. subst (TraceLinearizes (sizesIn file) (scheduleIn file) (entriesIn file)) (sym held) (run-linearizes file trace bytes t (sym told ∙ ran) enough),
+  ),
+)

@@ -1,0 +1,268 @@
+-- Laws of comparing two runs: where the bytes of an entry and of its outcome lie, the search for the next answer, and the comparison of two runs from one answer to the next.
+use mathlib.Core.Path.{_≡_, refl, ap, subst, sym, _∙_}
+use mathlib.Core.Bool.{Bool, true, false, cond, _&&_, false≢true}
+use mathlib.Core.List.{List, [], _∷_, _++_}
+use Prim.Native.Nat.{ℕ, zero, suc, _+_, _*_, _-_, _≤_, _<_, zero-le}
+use native.Mathlib.Nat.{le-of-eq}
+use native.Mathlib.Numerals.{add-one}
+use native.Mathlib.Omega.{arith}
+use lib.Dec.{eqb, leb}
+use lib.ListN.{length, drop, getD, take}
+use lib.Seq.{drop-drop, getD-drop, getD-take}
+use borrow.Author.Tests.{eq-eqb, eqb-false, eqb-true, le-leb, lt-leb, ne-eqb}
+use Rattle.terms.proofs.Laws.Tests.{decide}
+use Rattle.machine.specs.Lists.{all, gather, upFrom, upTo}
+use Rattle.machine.proofs.Laws.Lists.{all-snoc, all-upTo}
+use Rattle.machine.proofs.Laws.Sums.{upTo-suc}
+use Rattle.schedule.specs.Alike.{sameLine, sameLines}
+use Rattle.schedule.specs.Comparison.{answered, firstFrom, linesFrom, partyIn, sameFor}
+use Rattle.schedule.specs.Format.{kindsIn, operandsIn}
+use Rattle.schedule.specs.Number.{ofBytes}
+use Rattle.schedule.specs.Trace.{Line, lineIn}
+use Rattle.schedule.proofs.Laws.Format.{getD-words, kindsIn-part, operandsIn-words}
+use Rattle.schedule.proofs.Laws.Trace.{lineIn-number, lineIn-value}
+
+-- ── Where the bytes lie ─────────────────────────────────────────────────────────────────────────────────────────────────────
+
+-- the kind byte of an entry, and the four bytes of its operand
+
+pub kindsIn-at : (n : ℕ) (file : List ℕ) (at : ℕ) → at < n → 28 + n ≤ length file → getD (kindsIn n file) at 0 ≡ getD file (28 + at) 0
+kindsIn-at n file at h long = ap (λ l. getD l at 0) (kindsIn-part n file long) ∙ getD-take n (drop 28 file) at 0 h ∙ getD-drop 28 file at 0
+
+pub operandsIn-at : (n : ℕ) (file : List ℕ) (at : ℕ) → at < n → getD (operandsIn n file) at 0 ≡ ofBytes (take 4 (drop (28 + n + 4 * at) file))
+operandsIn-at n file at h =
+    ap (λ l. getD l at 0) (operandsIn-words n file)
+    ∙ getD-words n at (drop (28 + n) file) h
+    ∙ ap (λ l. ofBytes (take 4 l)) (drop-drop (4 * at) (28 + n) file)
+
+-- whether an entry gets an answer for the party, by the byte of its outcome, its operand, and whose entry that makes it
+module _ (party n : ℕ) (file trace : List ℕ) (whole : length file ≡ 28 + 5 * n) (long : 4 + 5 * n ≤ length trace) (at : ℕ) (there : at < n) where
+  answered-bytes : answered party n file trace at
+      ≡ (leb 16 (getD trace (4 + at) 0) && eqb (partyIn (getD file (28 + at) 0) (ofBytes (take 4 (drop (28 + n + 4 * at) file)))) party)
+  answered-bytes =
+      λ i. leb 16 (lineIn-number n trace at there i)
+      && eqb (partyIn (kindsIn-at n file at there (omega arith) i) (operandsIn-at n file at there i)) party
+
+  pub answered-none : getD trace (4 + at) 0 < 16 → answered party n file trace at ≡ false
+  answered-none low =
+      answered-bytes
+      ∙ ap (λ b. b && eqb (partyIn (getD file (28 + at) 0) (ofBytes (take 4 (drop (28 + n + 4 * at) file)))) party) (lt-leb 16 (getD trace (4 + at) 0) low)
+
+  module _ (operand whose : ℕ) (read : operand ≡ ofBytes (take 4 (drop (28 + n + 4 * at) file))) (of : whose ≡ partyIn (getD file (28 + at) 0) operand) (answer : 16 ≤ getD trace (4 + at) 0) where
+    by-party : answered party n file trace at ≡ eqb whose party
+    by-party =
+        answered-bytes
+        ∙ (λ i. le-leb 16 (getD trace (4 + at) 0) answer i && eqb (partyIn (getD file (28 + at) 0) (sym read i)) party)
+        ∙ ap (λ k. eqb k party) (sym of)
+
+    pub answered-for : whose ≡ party → answered party n file trace at ≡ true
+    answered-for same = by-party ∙ eq-eqb whose party same
+
+    pub answered-another : (whose ≡ party → ⊥) → answered party n file trace at ≡ false
+    answered-another other = by-party ∙ ne-eqb whose party other
+
+-- whether two lines are the same, by their bytes: other numbers decide, else the values do
+module _ (n : ℕ) (trace : List ℕ) (at : ℕ) (m : ℕ) (other : List ℕ) (there : ℕ)
+    (h : at < n) (long : 4 + 5 * n ≤ length trace) (k : there < m) (other-long : 4 + 5 * m ≤ length other) where
+  sameLine-bytes : sameLine (lineIn n trace at) (lineIn m other there)
+      ≡ (eqb (getD trace (4 + at) 0) (getD other (4 + there) 0)
+      && eqb (ofBytes (take 4 (drop (4 + n + 4 * at) trace))) (ofBytes (take 4 (drop (4 + m + 4 * there) other))))
+  sameLine-bytes =
+      λ i. eqb (lineIn-number n trace at h i) (lineIn-number m other there k i)
+      && eqb (lineIn-value n trace at h i) (lineIn-value m other there k i)
+
+  pub sameLine-differ : (getD trace (4 + at) 0 ≡ getD other (4 + there) 0 → ⊥) → sameLine (lineIn n trace at) (lineIn m other there) ≡ false
+  sameLine-differ apart =
+      sameLine-bytes
+      ∙ ap (λ b. b && eqb (ofBytes (take 4 (drop (4 + n + 4 * at) trace))) (ofBytes (take 4 (drop (4 + m + 4 * there) other)))) (ne-eqb _ _ apart)
+
+  pub sameLine-values : getD trace (4 + at) 0 ≡ getD other (4 + there) 0
+      → sameLine (lineIn n trace at) (lineIn m other there)
+      ≡ eqb (ofBytes (take 4 (drop (4 + n + 4 * at) trace))) (ofBytes (take 4 (drop (4 + m + 4 * there) other)))
+  sameLine-values same =
+      sameLine-bytes
+      ∙ ap (λ b. b && eqb (ofBytes (take 4 (drop (4 + n + 4 * at) trace))) (ofBytes (take 4 (drop (4 + m + 4 * there) other)))) (eq-eqb _ _ same)
+
+-- ── The first place at which a test passes ──────────────────────────────────────────────────────────────────────────────────
+
+-- how many places are left before the end
+one-more : (end at : ℕ) → at < end → end - at ≡ suc (end - suc at)
+one-more end at h = omega arith
+
+none-left : (end at : ℕ) → end ≤ at → end - at ≡ 0
+none-left end at h = omega arith
+
+module _ (test : ℕ → Bool) where
+  -- from a place on: that place, where the test passes at it; else the first from the next on; and the end, if no place is left
+
+  pub first-here : (end at : ℕ) → at < end → test at ≡ true → firstFrom test at (end - at) ≡ at
+  first-here end at h e = ap (firstFrom test at) (one-more end at h) ∙ ap (λ b. cond b at (firstFrom test (suc at) (end - suc at))) e
+
+  pub first-further : (end at : ℕ) → at < end → test at ≡ false → firstFrom test at (end - at) ≡ firstFrom test (at + 1) (end - (at + 1))
+  first-further end at h e =
+      rw add-one (ap (firstFrom test at) (one-more end at h) ∙ ap (λ b. cond b at (firstFrom test (suc at) (end - suc at))) e)
+
+  pub first-end : (end at : ℕ) → end ≤ at → firstFrom test at (end - at) ≡ at
+  first-end end at h = ap (firstFrom test at) (none-left end at h)
+
+  -- A place at which a search rests: the end, or one before it at which the test passes.
+  abbrev pub Rests : ℕ → ℕ → Type 0
+  Rests end at = (at ≤ end) × (at < end → test at ≡ true)
+
+  first-rests : (more at : ℕ) → Rests (at + more) (firstFrom test at more)
+  first-rests zero at = (omega arith, λ h. absurd (omega arith))
+  first-rests (suc more) at =
+      decide (Rests (at + suc more)) (test at) (λ e. (omega arith, λ h. e))
+      (λ e. let rests = first-rests more (suc at) in (omega (arith, rests .0), λ h. rests .1 (omega (arith, h))))
+
+  first-not-before : (more at : ℕ) → at ≤ firstFrom test at more
+  first-not-before zero at = omega arith
+  first-not-before (suc more) at = decide (λ k. at ≤ k) (test at) (λ e. omega arith) (λ e. omega (arith, first-not-before more (suc at)))
+
+-- what a function gives at the places, of so many from a given one on, at which a test passes
+module _ {A : Type 0} (test : ℕ → Bool) (f : ℕ → A) where
+  abbrev passing : ℕ → ℕ → List A
+  passing at more = gather (λ i. cond (test i) (f i ∷ []) []) (upFrom at more)
+
+  passing-here : (end at : ℕ) → at < end → test at ≡ true → passing at (end - at) ≡ f at ∷ passing (suc at) (end - suc at)
+  passing-here end at h e =
+      ap (passing at) (one-more end at h) ∙ ap (λ b. cond b (f at ∷ []) [] ++ passing (suc at) (end - suc at)) e
+
+  passing-end : (end at : ℕ) → end ≤ at → passing at (end - at) ≡ []
+  passing-end end at h = ap (passing at) (none-left end at h)
+
+  -- the places before the first one give nothing
+  passing-first : (end more at : ℕ) → at + more ≡ end → passing at more ≡ passing (firstFrom test at more) (end - firstFrom test at more)
+  passing-first end zero at e = ap (passing at) (sym (none-left end at (omega arith)))
+  passing-first end (suc more) at e =
+      go (test at) refl (firstFrom test (suc at) more) (passing-first end more (suc at) (omega arith))
+    where
+      go : (b : Bool) → test at ≡ b → (k : ℕ) → passing (suc at) more ≡ passing k (end - k)
+          → cond b (f at ∷ []) [] ++ passing (suc at) more ≡ passing (cond b at k) (end - cond b at k)
+      go true p k rest =
+          let left : end - suc at ≡ more = omega arith in
+          sym (passing-here end at (omega arith) p ∙ ap (λ n. f at ∷ passing (suc at) n) left)
+      go false p k rest = rest
+
+-- ── A party's answers from a place on ───────────────────────────────────────────────────────────────────────────────────────
+
+module _ (party n : ℕ) (file trace : List ℕ) where
+  -- a place at which the search for the party's answers rests
+  abbrev pub AtAnswer : ℕ → Type 0
+  AtAnswer at = Rests (answered party n file trace) n at
+
+  -- The next answer from a place on: the search rests there, not before that place, and nothing is left out.
+  module _ (from at : ℕ) (found : at ≡ firstFrom (answered party n file trace) from (n - from)) where
+    pub next-not-before : from ≤ at
+    next-not-before = omega (arith, found, first-not-before (answered party n file trace) (n - from) from)
+
+    module _ (inside : from ≤ n) where
+      whole : from + (n - from) ≡ n
+      whole = omega arith
+
+      pub next-rests : AtAnswer at
+      next-rests =
+          subst AtAnswer (sym found)
+          (subst (λ end. Rests (answered party n file trace) end (firstFrom (answered party n file trace) from (n - from))) whole
+          (first-rests (answered party n file trace) (n - from) from))
+
+      pub next-lines : linesFrom party n file trace from ≡ linesFrom party n file trace at
+      next-lines =
+          passing-first (answered party n file trace) (lineIn n trace) n (n - from) from whole ∙ ap (linesFrom party n file trace) (sym found)
+
+  -- where the search rests, its answer comes first; at the end there is none
+
+  pub lines-answer : (at : ℕ) → AtAnswer at → at < n → linesFrom party n file trace at ≡ lineIn n trace at ∷ linesFrom party n file trace (at + 1)
+  lines-answer at rests h = rw add-one (passing-here (answered party n file trace) (lineIn n trace) n at h (rests .1 h))
+
+  pub lines-end : (at : ℕ) → n ≤ at → linesFrom party n file trace at ≡ []
+  lines-end at h = passing-end (answered party n file trace) (lineIn n trace) n at h
+
+-- ── Two runs ────────────────────────────────────────────────────────────────────────────────────────────────────────────────
+
+module _ (party n : ℕ) (file trace : List ℕ) (m : ℕ) (other other-trace : List ℕ) where
+  abbrev lines : ℕ → List Line
+  lines at = linesFrom party n file trace at
+
+  abbrev other-lines : ℕ → List Line
+  other-lines there = linesFrom party m other other-trace there
+
+  abbrev same : Bool
+  same = sameFor n file trace m other other-trace party
+
+  -- Two places that a comparison has come to: the search rests at both, and what is left from there on decides.
+  pub record Compared (at there : ℕ) : Type 0 where
+    pub rests : AtAnswer party n file trace at
+    pub other-rests : AtAnswer party m other other-trace there
+    pub decides : same ≡ sameLines (lines at) (other-lines there)
+
+  pub compared-first : (at there : ℕ) → at ≡ firstFrom (answered party n file trace) 0 (n - 0) → there ≡ firstFrom (answered party m other other-trace) 0 (m - 0)
+      → Compared at there
+  compared-first at there found other-found =
+      record {
+        rests = next-rests party n file trace 0 at found zero-le;
+        other-rests = next-rests party m other other-trace 0 there other-found zero-le;
+        decides = λ i. sameLines (next-lines party n file trace 0 at found zero-le i) (next-lines party m other other-trace 0 there other-found zero-le i);
+      }
+
+  module _ (at there : ℕ) (so-far : Compared at there) where
+    -- both have an answer: these must be the same, and then the others
+
+    module _ (h : at < n) (k : there < m) where
+      by-line : same ≡ (sameLine (lineIn n trace at) (lineIn m other-trace there) && sameLines (lines (at + 1)) (other-lines (there + 1)))
+      by-line =
+          so-far .decides
+          ∙ (λ i. sameLines (lines-answer party n file trace at (so-far .rests) h i) (lines-answer party m other other-trace there (so-far .other-rests) k i))
+
+      pub compared-differ : sameLine (lineIn n trace at) (lineIn m other-trace there) ≡ false → same ≡ false
+      compared-differ e = by-line ∙ ap (λ b. b && sameLines (lines (at + 1)) (other-lines (there + 1))) e
+
+      pub compared-next : sameLine (lineIn n trace at) (lineIn m other-trace there) ≡ true → (at′ there′ : ℕ)
+          → at′ ≡ firstFrom (answered party n file trace) (at + 1) (n - (at + 1))
+          → there′ ≡ firstFrom (answered party m other other-trace) (there + 1) (m - (there + 1))
+          → Compared at′ there′
+      compared-next e at′ there′ found other-found =
+          let inside : at + 1 ≤ n = omega arith in
+          let other-inside : there + 1 ≤ m = omega arith in
+          record {
+            rests = next-rests party n file trace (at + 1) at′ found inside;
+            other-rests = next-rests party m other other-trace (there + 1) there′ other-found other-inside;
+            decides =
+                by-line
+                ∙ (λ i. e i && sameLines (next-lines party n file trace (at + 1) at′ found inside i) (next-lines party m other other-trace (there + 1) there′ other-found other-inside i));
+          }
+
+    -- only the first has one
+    pub compared-fewer : at < n → m ≤ there → same ≡ false
+    compared-fewer h k = so-far .decides ∙ (λ i. sameLines (lines-answer party n file trace at (so-far .rests) h i) (lines-end party m other other-trace there k i))
+
+    -- the first has none: neither may the other
+    pub compared-end : n ≤ at → same ≡ eqb there m
+    compared-end h = so-far .decides ∙ go (eqb there m) refl
+      where
+        go : (b : Bool) → eqb there m ≡ b → sameLines (lines at) (other-lines there) ≡ b
+        go true e = λ i. sameLines (lines-end party n file trace at h i) (lines-end party m other other-trace there (le-of-eq (sym (eqb-true there m e))) i)
+        go false e =
+            let apart = eqb-false there m e in
+            let before : there < m = omega (arith, so-far .other-rests .0) in
+            λ i. sameLines (lines-end party n file trace at h i) (lines-answer party m other other-trace there (so-far .other-rests) before i)
+
+-- ── A test of every number below a bound ────────────────────────────────────────────────────────────────────────────────────
+
+module _ (f : ℕ → Bool) where
+  -- a loop's turn: one number more has passed, or it is the one that fails
+
+  pub all-next : (n : ℕ) → all f (upTo n) ≡ true → f n ≡ true → all f (upTo (n + 1)) ≡ true
+  all-next n e p = ap (all f) (upTo-suc n) ∙ all-snoc f (upTo n) n ∙ (λ i. e i && p i)
+
+  pub all-stops : (n i : ℕ) → i < n → f i ≡ false → all f (upTo n) ≡ false
+  all-stops n i h e = go (all f (upTo n)) refl
+    where
+      go : (b : Bool) → all f (upTo n) ≡ b → b ≡ false
+      go true p = absurd (false≢true (sym e ∙ all-upTo f n i p h))
+      go false p = refl
+
+  -- where each passes, all do
+  pub all-below : (n : ℕ) → ((i : ℕ) → i < n → f i ≡ true) → all f (upTo n) ≡ true
+  all-below zero each = refl
+  all-below (suc n) each = rw add-one at (all-next n (all-below n (λ i h. each i (omega arith))) (each n (omega arith)))

@@ -1,0 +1,93 @@
+-- `alike` meets its contract: what the two readings are decides, then the sizes, then the answers.
+use mathlib.Core.Path.{_≡_, refl, ap, sym, _∙_}
+use mathlib.Core.Bool.{Bool, cond, _&&_}
+use mathlib.Core.List.{List}
+use Prim.Native.Nat.{ℕ}
+use borrow.Author.Needs.{needs}
+use Rattle.terms.proofs.Laws.Tests.{known}
+use Rattle.schedule.specs.Types.{Accepted, Alike, FirstRefused, Likeness, NotAlike, SecondRefused, Sizes}
+use Rattle.schedule.specs.Alike.{likeness, likenessOf, sameAnswers, sameSizes}
+use Rattle.schedule.specs.Reader.{readFile, refusalOf}
+use Rattle.schedule.proofs.Laws.Alike.{same-sizes}
+use Rattle.schedule.proofs.likeness.alike.Statement.{statement}
+use Rattle.schedule.proofs.likeness.alike.Tie as tie
+
+-- two files that were read, by what was found of their sizes and their answers
+both-read : (first second : List ℕ) (s t : Sizes) (n m : ℕ) {sizes answers : Bool} → readFile first ≡ Accepted s n → readFile second ≡ Accepted t m
+    → sameSizes s t ≡ sizes → sameAnswers (s .thieves) first second ≡ answers → cond (sizes && answers) Alike NotAlike ≡ likeness first second
+both-read first second s t n m one other sizes answers =
+    sym ((λ i. likenessOf first second (one i) (other i)) ∙ (λ i. cond (sizes i && answers i) Alike NotAlike))
+
+returns : tie.Need-returns
+returns c =
+    let asked = c .before .before .before in
+    let a = asked .before .before .before .args in
+    let told = known (asked .read .ensures) (c .before .enum-told .given .1) in
+    ap FirstRefused (c .refusal-of .ensures ∙ ap refusalOf (asked .read .ensures ∙ told))
+    ∙ sym (ap (λ one. likenessOf (a .first .now) (a .second .now) one (readFile (a .second .now))) told)
+
+returns-2 : tie.Need-returns-2
+returns-2 c =
+    let asked = c .before .before .before in
+    let opened = asked .before .before in
+    let a = opened .before .before .before .before .before .args in
+    let one = known (opened .before .before .read .ensures) (opened .reading .given .1) in
+    let told = known (asked .read2 .ensures) (c .before .enum-told2 .given .1) in
+    ap SecondRefused (c .refusal-of2 .ensures ∙ ap refusalOf (asked .read2 .ensures ∙ told))
+    ∙ sym (λ i. likenessOf (a .first .now) (a .second .now) (one i) (told i))
+
+same-runs-requires : tie.Need-same-runs-requires
+same-runs-requires c κs =
+    let sized = c .before in
+    let other = sized .before .before in
+    let opened = other .before .before .before .before in
+    let one = known (opened .before .before .read .ensures) (opened .reading .given .1) in
+    let told = known (other .before .before .read2 .ensures) (other .other .given .1) in
+    (one, told ∙ ap (λ s. Accepted s (other .other .given .0 .1 .0)) (sym (same-sizes _ _ (known (sized .same-sizes .ensures) (c .if1 .taken)))))
+
+returns-3 : tie.Need-returns-3
+returns-3 c =
+    let sized = c .before .before .before in
+    let other = sized .before .before in
+    let opened = other .before .before .before .before in
+    let a = opened .before .before .before .before .before .args in
+    both-read (a .first .now) (a .second .now) _ _ _ _ (known (opened .before .before .read .ensures) (opened .reading .given .1)) (known (other .before .before .read2 .ensures) (other .other .given .1))
+    (known (sized .same-sizes .ensures) (c .before .before .if1 .taken)) (known (c .before .same-runs .ensures) (c .if2 .taken))
+
+returns-4 : tie.Need-returns-4
+returns-4 c =
+    let sized = c .before .before .before in
+    let other = sized .before .before in
+    let opened = other .before .before .before .before in
+    let a = opened .before .before .before .before .before .args in
+    both-read (a .first .now) (a .second .now) _ _ _ _ (known (opened .before .before .read .ensures) (opened .reading .given .1)) (known (other .before .before .read2 .ensures) (other .other .given .1))
+    (known (sized .same-sizes .ensures) (c .before .before .if1 .taken)) (known (c .before .same-runs .ensures) (c .if2 .left))
+
+returns-5 : tie.Need-returns-5
+returns-5 c =
+    let sized = c .before in
+    let other = sized .before .before in
+    let opened = other .before .before .before .before in
+    let a = opened .before .before .before .before .before .args in
+    both-read (a .first .now) (a .second .now) _ _ _ _ (known (opened .before .before .read .ensures) (opened .reading .given .1)) (known (other .before .before .read2 .ensures) (other .other .given .1))
+    (known (sized .same-sizes .ensures) (c .if1 .left)) refl
+
+pub alike-spec : {M : Type 1} → statement M
+alike-spec =
+    tie.close
+    (tie.spec
+    (λ c κs. search needs)
+    (λ c. search needs)
+    (λ c. search needs)
+    (λ c κs. search needs)
+    returns
+    (λ c κs. search needs)
+    (λ c. search needs)
+    (λ c. search needs)
+    (λ c κs. search needs)
+    returns-2
+    (λ c κs. search needs)
+    same-runs-requires
+    returns-3
+    returns-4
+    returns-5)

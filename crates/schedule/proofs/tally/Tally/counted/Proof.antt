@@ -1,0 +1,12 @@
+-- `counted` meets its contract: each total by what its call ensures.
+use borrow.Author.Needs.{needs}
+use Rattle.schedule.proofs.tally.Tally.counted.Statement.{statement}
+use Rattle.schedule.proofs.tally.Tally.counted.Tie as tie
+
+returns : tie.Need-returns
+returns c =
+    simp (c .before .before .counted-if .ensures, c .before .counted-if2 .ensures, c .counted-if3 .ensures, c .before .before .before .number .ensures)
+
+pub counted-spec : {M : Type 1} → statement M
+counted-spec =
+    tie.close (tie.spec (λ c κs. search needs) (λ c κs. search needs) (λ c κs. search needs) (λ c κs. search needs) returns)

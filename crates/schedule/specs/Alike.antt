@@ -1,0 +1,80 @@
+-- Whether two schedules are alike. Renders, of "The numbers", the two sentences on alike schedules.
+use mathlib.Core.Path.{_≡_}
+use mathlib.Core.Bool.{Bool, true, false, cond, _&&_}
+use mathlib.Core.List.{List, [], _∷_}
+use Prim.Native.Nat.{ℕ, _+_, _<_}
+use lib.Dec.{eqb}
+use Rattle.machine.specs.Lists.{all, upTo}
+use Rattle.terms.specs.Outcome.{isAnswer}
+use Rattle.schedule.specs.Types.{Accepted, Alike, BeginPut, BeginSteal, BeginTake, ClientStore, Drain, Entry, FirstRefused, Likeness, NotAlike, Outcome, Reading, SecondRefused, Sizes, ThiefStep, WorkerStep}
+use Rattle.schedule.specs.declared.reader.Reading.the-variants as reading
+use Rattle.schedule.specs.Reader.{readFile}
+use Rattle.schedule.specs.Run.{outcomesIn, scheduleIn}
+use Rattle.schedule.specs.Trace.{Line, lineOf}
+
+-- whose entry it is, counted: the worker is 0, and thief i is i + 1
+abbrev pub partyOf : Entry → ℕ
+partyOf Drain = 0
+partyOf ClientStore = 0
+partyOf (BeginPut x) = 0
+partyOf BeginTake = 0
+partyOf WorkerStep = 0
+partyOf (BeginSteal i) = i + 1
+partyOf (ThiefStep i) = i + 1
+
+-- the answers that a party gets, with their values, in their order; 0, 5, 6 and 7 are no answers
+abbrev pub answersTo : ℕ → List Entry → List Outcome → List Line
+answersTo party [] os = []
+answersTo party (e ∷ es) [] = []
+answersTo party (e ∷ es) (o ∷ os) = cond (isAnswer o && eqb (partyOf e) party) (lineOf o ∷ answersTo party es os) (answersTo party es os)
+
+-- the answers that a party gets in the run of a file
+abbrev pub answersOf : ℕ → List ℕ → List Line
+answersOf party file = answersTo party (scheduleIn file) (outcomesIn file)
+
+-- the same number and the same value
+abbrev pub sameLine : Line → Line → Bool
+sameLine x y = eqb (x .number) (y .number) && eqb (x .value) (y .value)
+
+-- the same lines in the same order
+abbrev pub sameLines : List Line → List Line → Bool
+sameLines [] [] = true
+sameLines [] (y ∷ m) = false
+sameLines (x ∷ l) [] = false
+sameLines (x ∷ l) (y ∷ m) = sameLine x y && sameLines l m
+
+-- the six sizes as written, so that a margin of 0 is another than the buffer size
+abbrev pub sameSizes : Sizes → Sizes → Bool
+sameSizes s t =
+    eqb (s .slots) (t .slots)
+    && eqb (s .buffer) (t .buffer)
+    && eqb (s .spacing) (t .spacing)
+    && eqb (s .margin) (t .margin)
+    && eqb (s .thieves) (t .thieves)
+    && eqb (s .start) (t .start)
+
+-- the worker and each thief get the same answers from two files
+abbrev pub sameAnswers : ℕ → List ℕ → List ℕ → Bool
+sameAnswers thieves first second = all (λ party. sameLines (answersOf party first) (answersOf party second)) (upTo (thieves + 1))
+
+abbrev pub likenessOf : List ℕ → List ℕ → Reading → Reading → Likeness
+likenessOf first second (reading.Refused r) other = FirstRefused r
+likenessOf first second (Accepted s n) (reading.Refused r) = SecondRefused r
+likenessOf first second (Accepted s n) (Accepted t m) = cond (sameSizes s t && sameAnswers (s .thieves) first second) Alike NotAlike
+
+-- whether two files are alike; a refused file decides, the first one first
+abbrev pub likeness : List ℕ → List ℕ → Likeness
+likeness first second = likenessOf first second (readFile first) (readFile second)
+
+-- ── What alike means ────────────────────────────────────────────────────────────────────────────────────────────────────────
+
+-- Two files that are read are alike exactly when their sizes are equal and every party's answers are. Proved in `proofs/AlikeExactly.antt`.
+pub record Equals (first second : List ℕ) (s t : Sizes) : Type 0 where
+  pub sizes : s ≡ t
+  pub answers : (party : ℕ) → party < s .thieves + 1 → answersOf party first ≡ answersOf party second
+
+abbrev pub AlikeExactly : Type 0
+AlikeExactly =
+    (first second : List ℕ) (s t : Sizes) (n m : ℕ)
+    → readFile first ≡ Accepted s n → readFile second ≡ Accepted t m
+    → (likeness first second ≡ Alike → Equals first second s t) × (Equals first second s t → likeness first second ≡ Alike)

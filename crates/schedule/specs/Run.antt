@@ -1,0 +1,63 @@
+-- A file run, and one step of a run. Renders "Order" and "Trace", of "The numbers", as far as they are about a run, 8 ROOM, and the totals of "The program's lines".
+use mathlib.Core.Bool.{cond}
+use mathlib.Core.List.{List, [], _∷_, map}
+use Prim.Native.Nat.{ℕ}
+use lib.Dec.{ltb}
+use lib.ListN.{length}
+use Rattle.machine.specs.Lists.{gather, upTo}
+use Rattle.machine.specs.Machine.{fresh}
+use Rattle.machine.specs.Obey.{obey, outcomesOf}
+use Rattle.schedule.specs.Types.{Accepted, Allowed, Entry, Machine, Meaning, Outcome, Ran, Reading, Room, Running, Sizes, Stepped, Tally}
+use Rattle.schedule.specs.declared.entries.Meaning.the-variants as meaning
+use Rattle.schedule.specs.declared.reader.Reading.the-variants as reading
+use Rattle.schedule.specs.declared.runner.Running.the-variants as running
+use Rattle.schedule.specs.Entries.{entryAt}
+use Rattle.schedule.specs.Format.{entriesIn, kindsIn, operandsIn, sizesIn}
+use Rattle.schedule.specs.Number.{overwritten}
+use Rattle.schedule.specs.Reader.{readFile}
+use Rattle.schedule.specs.Tally.{counted, tallyOf}
+use Rattle.schedule.specs.Trace.{traceLength, traceOf}
+
+-- ── One step ────────────────────────────────────────────────────────────────────────────────────────────────────────────────
+
+-- an entry obeyed, and the tally brought up to date by its outcome
+abbrev pub stepped : Machine → Tally → Entry → Stepped
+stepped m t e = record { machine = obey m e .machine; tally = counted t (obey m e .outcome); outcome = obey m e .outcome }
+
+-- ── What a file has the machine do ──────────────────────────────────────────────────────────────────────────────────────────
+
+-- the entry that is meant, in a list of at most one
+abbrev pub entryMeant : Meaning → List Entry
+entryMeant (Allowed e) = e ∷ []
+entryMeant (meaning.Refused r) = []
+
+-- the entries of two parallel arrays, in their order
+abbrev pub entriesOf : ℕ → List ℕ → List ℕ → List Entry
+entriesOf thieves kinds operands = gather (λ at. entryMeant (entryAt thieves kinds operands at)) (upTo (length kinds))
+
+-- the entries of a file
+abbrev pub scheduleIn : List ℕ → List Entry
+scheduleIn file = entriesOf (sizesIn file .thieves) (kindsIn (entriesIn file) file) (operandsIn (entriesIn file) file)
+
+-- what they come to, obeyed one by one from the fresh machine
+abbrev pub outcomesIn : List ℕ → List Outcome
+outcomesIn file = outcomesOf (fresh (sizesIn file)) (scheduleIn file)
+
+-- ── A run ───────────────────────────────────────────────────────────────────────────────────────────────────────────────────
+
+-- the reader's refusals come first, then ROOM
+abbrev pub runningOf : List ℕ → ℕ → Reading → Running
+runningOf file room (reading.Refused r) = running.Refused r
+runningOf file room (Accepted s entries) = cond (ltb room (traceLength entries)) (running.Refused Room) (Ran (tallyOf (outcomesIn file)))
+
+-- what running a file comes to, with a trace buffer of so many bytes: the totals, or the refusal
+abbrev pub runFile : List ℕ → ℕ → Running
+runFile file room = runningOf file room (readFile file)
+
+abbrev pub traceIf : List ℕ → List ℕ → Running → List ℕ
+traceIf new trace (Ran t) = overwritten 0 new trace
+traceIf new trace (running.Refused r) = trace
+
+-- what the trace buffer holds afterwards: the trace and, beyond it, what it held; if refused, all that it held
+abbrev pub traceAfter : List ℕ → List ℕ → List ℕ
+traceAfter file trace = traceIf (traceOf (outcomesIn file)) trace (runFile file (length trace))

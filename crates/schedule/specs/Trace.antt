@@ -1,0 +1,37 @@
+-- The trace of a run. Renders "Trace", of "The numbers". Like a file it has one description, `traceLayout`: a trace is written by it, and what stands in a trace is read by it.
+use mathlib.Core.List.{List, [], _∷_, _++_, map}
+use Prim.Native.Nat.{ℕ, _+_, _*_}
+use lib.ListN.{length, drop, getD, replicate, take}
+use Rattle.terms.specs.Outcome.{numberOf, valueOf}
+use Rattle.schedule.specs.Types.{Outcome}
+use Rattle.schedule.specs.Format.{decode, encode}
+
+-- How many bytes each number of a trace has, in the trace's order: the number of entries four, then an outcome of one for each entry, then a value of four for each entry.
+abbrev pub traceLayout : ℕ → List ℕ
+traceLayout entries = 4 ∷ (replicate entries 1 ++ replicate entries 4)
+
+-- how many bytes the trace of so many entries has
+abbrev pub traceLength : ℕ → ℕ
+traceLength entries = 4 + 5 * entries
+
+-- the trace of a run with these outcomes
+abbrev pub traceOf : List Outcome → List ℕ
+traceOf os = encode (traceLayout (length os)) (length os ∷ (map numberOf os ++ map valueOf os))
+
+-- ── What stands in a trace ──────────────────────────────────────────────────────────────────────────────────────────────────
+
+-- What a trace has of an entry: the number of its outcome, and the value.
+pub record Line : Type 0 where
+  pub number : ℕ
+  pub value : ℕ
+
+abbrev pub lineOf : Outcome → Line
+lineOf o = record { number = numberOf o; value = valueOf o }
+
+-- the line of an entry, in the trace of so many
+abbrev pub lineIn : ℕ → List ℕ → ℕ → Line
+lineIn entries trace at =
+    record {
+      number = getD (decode (traceLayout entries) trace) (1 + at) 0;
+      value = getD (decode (traceLayout entries) trace) (1 + entries + at) 0;
+    }

@@ -1,0 +1,50 @@
+ghost use mathlib.Core.Path.{_≡_};
+ghost use Rattle.schedule.specs.Tally.{counted, countedIf, noneCounted};
+use terms::Outcome;
+
+// How many entries came to three of the outcomes. A total that has reached the largest number stays there.
+pub struct Tally {
+    // TASK: a block was handed out.
+    pub given: u32,
+    // ABORT: a thief went away with nothing, since the margin was not kept.
+    pub aborts: u32,
+    // WAIT: an entry could not be obeyed at that moment.
+    pub waits: u32,
+}
+
+// A total, after an outcome that it counts or does not count.
+fn counted_if(counts: bool, total: u32) -> u32
+    ensures { λ r. ⌜ r ≡ countedIf counts total ⌝ }
+{
+    if counts {
+        if total < 4294967295 {
+            return total + 1;
+        }
+    }
+    total
+}
+
+impl Tally {
+    // Nothing counted.
+    pub fn none() -> Tally
+        ensures { λ r. ⌜ r ≡ noneCounted ⌝ }
+    {
+        Tally {
+            given: 0,
+            aborts: 0,
+            waits: 0,
+        }
+    }
+
+    // The tally after one outcome more.
+    pub fn counted(self, outcome: Outcome) -> Tally
+        ensures { λ r. ⌜ r ≡ counted self outcome ⌝ }
+    {
+        let number = outcome.number();
+        Tally {
+            given: counted_if(number == 17, self.given),
+            aborts: counted_if(number == 19, self.aborts),
+            waits: counted_if(number == 7, self.waits),
+        }
+    }
+}
