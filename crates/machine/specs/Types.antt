@@ -1,11 +1,11 @@
 -- The declared types of `src/`, and those of `terms`, passed on under one name for the definitions beside this file. Nothing is defined here.
+pub use Rattle.terms.specs.declared.entry.Entry.{Entry}
+pub use Rattle.terms.specs.declared.entry.Entry.the-variants.{Drain, ClientStore, BeginPut, BeginTake, WorkerStep, BeginSteal, ThiefStep}
 pub use Rattle.terms.specs.declared.outcome.Outcome.{Outcome}
 pub use Rattle.terms.specs.declared.outcome.Outcome.the-variants.{Moved, Place, Early, Wait, Stored, Task, Empty, Abort, Full, End}
 pub use Rattle.terms.specs.declared.sizes.SizeCheck.{SizeCheck}
 pub use Rattle.terms.specs.declared.sizes.SizeCheck.the-variants.{AllInRange, OutOfRange}
 pub use Rattle.terms.specs.declared.sizes.Sizes.{Sizes}
-pub use Rattle.machine.specs.declared.entry.Entry.{Entry}
-pub use Rattle.machine.specs.declared.entry.Entry.the-variants.{Drain, ClientStore, BeginPut, BeginTake, WorkerStep, BeginSteal, ThiefStep}
 pub use Rattle.machine.specs.declared.index.Index.{Index}
 pub use Rattle.machine.specs.declared.machine.Done.{Done}
 pub use Rattle.machine.specs.declared.machine.Holder.{Holder}

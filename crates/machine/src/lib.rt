@@ -8,24 +8,21 @@
 // from the head than a margin; with a margin that is large enough for the buffer and for how far takes are spaced apart,
 // no task is handed out twice.
 //
-// Every step of every party is an entry of a schedule, and an entry is obeyed as a whole. Sizes and outcomes are those of
-// the library `terms`. Reading order:
+// Every step of every party is an entry of a schedule, and an entry is obeyed as a whole. Sizes, entries and outcomes are
+// those of the library `terms`. Reading order:
 //
-// - `entry`: the seven kinds of entry;
 // - `index`: a position of the queue, a signed number that never wraps;
 // - `store_buffer`: the pending stores;
 // - `worker`, `thief`: the calls in progress, one case for each step that may be next, and each step;
 // - `machine`: memory, lock, store buffer and calls together, whether all of it is in range, and the operations: the fresh
 //   machine, one for each kind of entry (the two that make a step are with the steps), and `obey` for any of them.
 mod boolean;
-mod entry;
 mod index;
 mod machine;
 mod store_buffer;
 mod thief;
 mod worker;
 
-pub use entry::Entry;
 pub use index::Index;
 pub use machine::Done;
 pub use machine::Holder;

@@ -1,6 +1,5 @@
 use crate::boolean::both;
 use crate::boolean::chosen;
-use crate::entry::Entry;
 use crate::index::Index;
 use crate::index::slot_of;
 use crate::store_buffer::Store;
@@ -11,6 +10,7 @@ use crate::thief::ThiefCall;
 use crate::thief::thieves_in_range;
 use crate::worker::Worker;
 use crate::worker::WorkerCall;
+use terms::Entry;
 use terms::Outcome;
 use terms::SizeCheck;
 use terms::Sizes;

@@ -7,10 +7,11 @@ use native.Mathlib.Omega.{arith}
 use lib.Dec.{eqb, leb, ltb}
 use borrow.Author.Tests.{le-leb, leb-true, ltb-false, ltb-true}
 use Rattle.terms.specs.Outcome.{numberOf}
+use Rattle.terms.specs.Tally.{counted, countedIf, noneCounted}
 use Rattle.terms.proofs.Laws.Tests.{by-test, decide, eqb-comm}
 use Rattle.machine.specs.Lists.{occurrences}
 use Rattle.schedule.specs.Types.{Outcome, Tally}
-use Rattle.schedule.specs.Tally.{TotalsCount, counted, countedFrom, countedIf, noneCounted}
+use Rattle.schedule.specs.Totals.{TotalsCount, countedFrom}
 
 -- a number, but the largest of 32 bits where it is more
 abbrev capped : ℕ → ℕ

@@ -5,16 +5,17 @@ use mathlib.Core.List.{List, [], _∷_, _++_, map}
 use Prim.Native.Nat.{ℕ, _+_}
 use lib.Dec.{eqb}
 use lib.ListN.{length, replicate, take}
+use Rattle.terms.specs.declared.kinds.Meaning.the-variants as meaning
+use Rattle.terms.specs.Refusal.{numberOf, placeOf}
+use Rattle.terms.specs.Kinds.{entryOf, kindOf, operandOf}
 use Rattle.machine.specs.Lists.{upFrom}
 use Rattle.schedule.specs.Types.{Accepted, Allowed, Meaning, Reading, Refusal, Sizes, Writing, Written}
 use Rattle.schedule.specs.Types.{BeginPut, BeginSteal, BeginTake, ClientStore, Drain, Entry, ThiefStep, WorkerStep}
-use Rattle.schedule.specs.declared.entries.Meaning.the-variants as meaning
 use Rattle.schedule.specs.declared.reader.Reading.the-variants as reading
 use Rattle.schedule.specs.declared.writer.Writing.the-variants as writing
 use Rattle.schedule.specs.Number.{littleEndian}
-use Rattle.schedule.specs.Refusal.{numberOf, placeOf}
 use Rattle.schedule.specs.Format.{sizeNumbers, wordBytes, wordsIn}
-use Rattle.schedule.specs.Entries.{entryAt, entryOf, kindOf, operandOf}
+use Rattle.schedule.specs.Entries.{entryAt}
 use Rattle.schedule.specs.Reader.{kindPart, kindStart, operandPart, operandStart, readFile}
 use Rattle.schedule.specs.Writer.{bufferAfter, writeFile}
 

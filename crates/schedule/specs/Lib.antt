@@ -2,13 +2,14 @@
 -- `writeFile` in `Writer` are what `read` and `write` answer, `layout` in `Format` is what both go by.
 --
 -- numbers in bytes                      Number
--- refusals, their numbers and places    Refusal
+-- refusals, their numbers and places    Refusal, of `terms`
 -- checks in their order; SIZE           Check
 -- the layout of a file                  Format
--- kinds, operands; KIND and WHO         Entries
+-- kinds, operands; KIND and WHO         Kinds, of `terms`
+-- one entry, and the first faulty one   Entries
 -- reading: the order of its checks      Reader
 -- writing: the order of its checks      Writer
--- the three totals                      Tally
+-- the three totals                      Tally, of `terms`; Totals
 -- the trace, and what stands in it      Trace
 -- running a file, and one step          Run
 -- demand 3 of a trace                   Demand3
@@ -19,13 +20,12 @@
 -- files at their edges, as a table      Edges
 pub mod Types
 pub mod Number
-pub mod Refusal
 pub mod Check
 pub mod Format
 pub mod Entries
 pub mod Reader
 pub mod Writer
-pub mod Tally
+pub mod Totals
 pub mod Trace
 pub mod Run
 pub mod Demand3

@@ -4,18 +4,19 @@ use mathlib.Core.List.{List, [], _∷_, map}
 use Prim.Native.Nat.{ℕ}
 use lib.Dec.{ltb}
 use lib.ListN.{length}
+use Rattle.terms.specs.declared.kinds.Meaning.the-variants as meaning
+use Rattle.terms.specs.Tally.{counted}
 use Rattle.machine.specs.Lists.{gather, upTo}
 use Rattle.machine.specs.Machine.{fresh}
 use Rattle.machine.specs.Obey.{obey, outcomesOf}
 use Rattle.schedule.specs.Types.{Accepted, Allowed, Entry, Machine, Meaning, Outcome, Ran, Reading, Room, Running, Sizes, Stepped, Tally}
-use Rattle.schedule.specs.declared.entries.Meaning.the-variants as meaning
 use Rattle.schedule.specs.declared.reader.Reading.the-variants as reading
 use Rattle.schedule.specs.declared.runner.Running.the-variants as running
 use Rattle.schedule.specs.Entries.{entryAt}
 use Rattle.schedule.specs.Format.{entriesIn, kindsIn, operandsIn, sizesIn}
 use Rattle.schedule.specs.Number.{overwritten}
 use Rattle.schedule.specs.Reader.{readFile}
-use Rattle.schedule.specs.Tally.{counted, tallyOf}
+use Rattle.schedule.specs.Totals.{tallyOf}
 use Rattle.schedule.specs.Trace.{traceLength, traceOf}
 
 -- ── One step ────────────────────────────────────────────────────────────────────────────────────────────────────────────────

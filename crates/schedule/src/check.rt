@@ -1,6 +1,6 @@
 ghost use mathlib.Core.Path.{_≡_};
 ghost use Rattle.schedule.specs.Check.{checkRanges};
-use crate::refusal::Refusal;
+use terms::Refusal;
 use terms::SizeCheck;
 use terms::Sizes;
 

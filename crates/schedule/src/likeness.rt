@@ -11,8 +11,8 @@ use crate::number::word_at;
 use crate::reader::Reading;
 use crate::reader::read;
 use crate::reader::refusal_of;
-use crate::refusal::Refusal;
 use crate::runner::obey_file;
+use terms::Refusal;
 use terms::Sizes;
 
 // The bytes of the longest trace, that of 4,096 entries.

@@ -9,7 +9,7 @@ use crate::entries::check_part;
 use crate::number::ENTRY_BYTES;
 use crate::number::SIZES_BYTES;
 use crate::number::word_at;
-use crate::refusal::Refusal;
+use terms::Refusal;
 use terms::Sizes;
 
 // What reading a file comes to.

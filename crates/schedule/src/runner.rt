@@ -11,10 +11,9 @@ ghost use Rattle.schedule.specs.Format.{wordsIn};
 ghost use Rattle.schedule.specs.Number.{littleEndian, overwritten};
 ghost use Rattle.schedule.specs.Reader.{readFile};
 ghost use Rattle.schedule.specs.Run.{entriesOf, outcomesIn, runFile, stepped, traceAfter};
-ghost use Rattle.schedule.specs.Tally.{tallyOf};
+ghost use Rattle.schedule.specs.Totals.{tallyOf};
 ghost use Rattle.schedule.specs.Trace.{traceOf};
 ghost use Rattle.schedule.specs.Types.{Accepted, Passed};
-use crate::entries::Meaning;
 use crate::entries::entry_at;
 use crate::number::ENTRY_BYTES;
 use crate::number::SIZES_BYTES;
@@ -22,12 +21,13 @@ use crate::number::put_word;
 use crate::reader::Reading;
 use crate::reader::read;
 use crate::reader::refusal_of;
-use crate::refusal::Refusal;
-use crate::tally::Tally;
-use machine::Entry;
 use machine::Machine;
+use terms::Entry;
+use terms::Meaning;
 use terms::Outcome;
+use terms::Refusal;
 use terms::Sizes;
+use terms::Tally;
 
 // What one step of a run hands back.
 pub struct Stepped {

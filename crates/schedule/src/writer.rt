@@ -11,7 +11,7 @@ use crate::entries::check_arrays;
 use crate::number::ENTRY_BYTES;
 use crate::number::SIZES_BYTES;
 use crate::number::put_word;
-use crate::refusal::Refusal;
+use terms::Refusal;
 use terms::Sizes;
 
 // What writing a file comes to.

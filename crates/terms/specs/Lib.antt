@@ -1,7 +1,13 @@
--- What the promises about sizes and outcomes say. Names in quotation marks are places of the scope paper, 01.
+-- What the promises about the paper's tables say. Names in quotation marks are places of the scope paper, 01.
 --
--- sizes and margins                 Sizes
--- outcomes and their numbers        Outcome
+-- sizes and margins                     Sizes
+-- outcomes and their numbers            Outcome
+-- refusals, their numbers and places    Refusal
+-- kinds, operands; KIND and WHO         Kinds
+-- the three totals                      Tally
 pub mod Types
 pub mod Sizes
 pub mod Outcome
+pub mod Refusal
+pub mod Kinds
+pub mod Tally

@@ -1,12 +1,26 @@
-// The terms that the libraries above share: the sizes of a schedule, with their ranges and the margins, and what an entry
-// can come to, in the paper's numbers. No function here asks anything of its caller. Reading order:
+// The terms that the libraries above share: the paper's tables, as plain data with total functions. They are the sizes of a
+// schedule, its entries, what an entry can come to, why a file is refused, and the totals of a run, in the paper's numbers.
+// No function here asks anything of its caller. Reading order:
 //
 // - `sizes`: the six sizes of a schedule, their ranges, and the margin;
-// - `outcome`: what an entry comes to, with its number and value in a trace.
+// - `entry`: the seven kinds of entry;
+// - `outcome`: what an entry comes to, with its number and value in a trace;
+// - `refusal`: why a file is refused, with number and place;
+// - `kinds`: what a kind byte and its operand mean: an entry, or a refusal;
+// - `tally`: how many entries came to three of the outcomes.
+mod entry;
+mod kinds;
 mod outcome;
+mod refusal;
 mod sizes;
+mod tally;
 
+pub use entry::Entry;
+pub use kinds::Meaning;
+pub use kinds::entry_of;
 pub use outcome::Outcome;
+pub use refusal::Refusal;
 pub use sizes::SizeCheck;
 pub use sizes::Sizes;
 pub use sizes::needed_margin;
+pub use tally::Tally;

@@ -10,10 +10,10 @@ use lib.ListN.{length, getD}
 use borrow.Author.Tests.{eq-eqb, eqb-true}
 use Rattle.terms.specs.declared.outcome.Outcome.the-variants.{Moved}
 use Rattle.terms.specs.Outcome.{isAnswer}
+use Rattle.terms.specs.Kinds.{kindOf, operandOf}
 use Rattle.terms.proofs.Laws.Tests.{both-left, both-right}
 use Rattle.machine.specs.Lists.{all, gather, upFrom, upTo}
 use Rattle.schedule.specs.Types.{BeginPut, BeginSteal, BeginTake, ClientStore, Drain, Entry, Outcome, Sizes, ThiefStep, WorkerStep, Accepted}
-use Rattle.schedule.specs.Entries.{kindOf, operandOf}
 use Rattle.schedule.specs.Format.{kindsIn, operandsIn, entriesIn, sizesIn}
 use Rattle.schedule.specs.Trace.{Line, lineIn, lineOf, traceOf}
 use Rattle.schedule.specs.Alike.{answersOf, answersTo, partyOf, sameAnswers, sameLine, sameLines, sameSizes}

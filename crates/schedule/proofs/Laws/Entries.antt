@@ -7,16 +7,17 @@ use native.Mathlib.Omega.{arith}
 use lib.Dec.{eqb, ltb}
 use lib.ListN.{length, drop, getD, take, List·getD-eq-default}
 use borrow.Author.Tests.{eqb-true, le-ltb, lt-ltb, ltb-false, ltb-true}
+use Rattle.terms.specs.declared.kinds.Meaning.the-variants.{Refused}
+use Rattle.terms.specs.Kinds.{allowedIf, entryOf, kindOf, operandOf}
 use Rattle.terms.proofs.Laws.Tests.{cond-map}
 use Rattle.machine.specs.Lists.{upTo}
 use Rattle.machine.proofs.Laws.Lists.{all-each}
 use Rattle.schedule.specs.Types.{BeginPut, BeginSteal, BeginTake, ClientStore, Drain, Entry, ThiefStep, WorkerStep}
 use Rattle.schedule.specs.Types.{Allowed, Check, Failed, Kind, Meaning, Passed, Refusal, Short, Who}
-use Rattle.schedule.specs.declared.entries.Meaning.the-variants.{Refused}
 use Rattle.schedule.specs.Number.{allBelow, ofBytes}
 use Rattle.schedule.specs.Check.{first}
 use Rattle.schedule.specs.Format.{wordsIn}
-use Rattle.schedule.specs.Entries.{allowedIf, checkEntries, checkOf, entryAt, entryOf, kindOf, operandOf}
+use Rattle.schedule.specs.Entries.{checkEntries, checkOf, entryAt}
 use Rattle.schedule.specs.Faults.{operandAllowed}
 use Rattle.schedule.proofs.Laws.Check.{first-more, first-stops, not-both, upTo-passed}
 use Rattle.schedule.proofs.Laws.Format.{getD-words, length-wordsIn}

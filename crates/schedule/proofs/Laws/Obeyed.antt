@@ -6,11 +6,12 @@ use native.Mathlib.Omega.{arith}
 use lib.ListN.{length}
 use Rattle.machine.specs.Obey.{machineAfter, obey, outcomesOf}
 use Rattle.terms.specs.Outcome.{numberOf, valueOf}
+use Rattle.terms.specs.Tally.{noneCounted}
 use Rattle.schedule.specs.Types.{Allowed, Entry, Machine, Outcome, Passed, Stepped, Tally}
 use Rattle.schedule.specs.Entries.{checkEntries, entryAt}
 use Rattle.schedule.specs.Number.{littleEndian, overwritten}
 use Rattle.schedule.specs.Run.{entriesOf, stepped}
-use Rattle.schedule.specs.Tally.{noneCounted, tallyOf}
+use Rattle.schedule.specs.Totals.{tallyOf}
 use Rattle.schedule.specs.Trace.{traceOf}
 use Rattle.schedule.proofs.Laws.Run.{entriesUpTo, entriesUpTo-more, length-entriesUpTo, length-outcomesOf, machineAfter-more, outcomesOf-more, tallyOf-more}
 use Rattle.schedule.proofs.Laws.Trace.{traceSoFar, traceSoFar-all, traceSoFar-more, traceSoFar-none}

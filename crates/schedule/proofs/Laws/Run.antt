@@ -12,6 +12,9 @@ use lib.Seq.{getD-at}
 use borrow.Author.Tests.{le-ltb, lt-ltb, ltb-false, ltb-true}
 use Rattle.terms.specs.Outcome.{valueOf}
 use Rattle.terms.specs.declared.outcome.Outcome.the-variants.{Moved, Place, Early, Wait, Stored, Task, Empty, Abort, Full, End}
+use Rattle.terms.specs.declared.kinds.Meaning.the-variants.{Refused}
+use Rattle.terms.specs.Kinds.{entryOf, operandOf}
+use Rattle.terms.specs.Tally.{counted, noneCounted}
 use Rattle.terms.proofs.Laws.Tests.{both-left, both-right, by-test, either}
 use Rattle.machine.specs.Lists.{all, gather, upTo}
 use Rattle.machine.specs.Machine.{fresh}
@@ -22,15 +25,14 @@ use Rattle.machine.proofs.Laws.Sums.{gather-append, upTo-suc}
 use Rattle.machine.proofs.Renumbering.{blind-to-numbers}
 use Rattle.schedule.specs.Types.{BeginPut, BeginSteal, BeginTake, ClientStore, Drain, Entry, Refusal, ThiefStep, WorkerStep}
 use Rattle.schedule.specs.Types.{Accepted, Allowed, Machine, Meaning, Outcome, Passed, Ran, Room, Sizes, Tally}
-use Rattle.schedule.specs.declared.entries.Meaning.the-variants.{Refused}
 use Rattle.schedule.specs.declared.reader.Reading.the-variants as reading
 use Rattle.schedule.specs.declared.runner.Running.the-variants as running
 use Rattle.schedule.specs.Number.{allBelow}
-use Rattle.schedule.specs.Entries.{checkEntries, entryAt, entryOf, operandOf}
+use Rattle.schedule.specs.Entries.{checkEntries, entryAt}
 use Rattle.schedule.specs.Format.{entriesIn, kindsIn, operandsIn, sizesIn, wordsIn}
 use Rattle.schedule.specs.Reader.{readFile}
 use Rattle.schedule.specs.Run.{entriesOf, entryMeant, outcomesIn, runFile, runningOf, scheduleIn}
-use Rattle.schedule.specs.Tally.{counted, countedFrom, noneCounted, tallyOf}
+use Rattle.schedule.specs.Totals.{countedFrom, tallyOf}
 use Rattle.schedule.proofs.Laws.Number.{allBelow-drop}
 use Rattle.schedule.proofs.Laws.Entries.{check-allowed, entries-passed, entry-as-read}
 use Rattle.schedule.proofs.Laws.Format.{decode-below, length-kindsIn, operandsIn-words}

@@ -4,7 +4,8 @@ use Prim.Native.Nat.{_-_, _/_, _<_}
 use native.Mathlib.Omega.{arith}
 use borrow.Author.Needs.{needs}
 use lib.ListN.{length, getD}
-use Rattle.schedule.specs.Entries.{entryAt, entryOf}
+use Rattle.terms.specs.Kinds.{entryOf}
+use Rattle.schedule.specs.Entries.{entryAt}
 use Rattle.schedule.specs.Format.{wordsIn}
 use Rattle.schedule.proofs.Laws.Entries.{NoneBefore, entryAt-bytes, first-faulty, none-at-all, none-before-first, none-before-next}
 use Rattle.schedule.proofs.entries.check_part.Statement.{statement}

@@ -2,7 +2,7 @@
 use mathlib.Core.Path.{_∙_, ap, sym}
 use borrow.Author.Needs.{needs}
 use lib.ListN.{getD}
-use Rattle.schedule.specs.Entries.{entryOf}
+use Rattle.terms.specs.Kinds.{entryOf}
 use Rattle.schedule.specs.Format.{wordsIn}
 use Rattle.schedule.proofs.Laws.Entries.{entryAt-bytes, entryAt-no-kind, entryAt-no-operand}
 use Rattle.schedule.proofs.Laws.Format.{length-wordsIn}

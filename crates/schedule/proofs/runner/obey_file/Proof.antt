@@ -5,7 +5,7 @@ use native.Mathlib.Omega.{arith}
 use borrow.Author.Needs.{needs}
 use lib.ListN.{length}
 use Rattle.schedule.specs.Number.{overwritten}
-use Rattle.schedule.specs.Tally.{tallyOf}
+use Rattle.schedule.specs.Totals.{tallyOf}
 use Rattle.schedule.specs.Trace.{traceOf}
 use Rattle.schedule.proofs.Laws.Reader.{accepted-holds}
 use Rattle.schedule.proofs.Laws.Run.{parts-obeyed}

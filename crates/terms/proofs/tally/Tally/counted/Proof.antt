@@ -1,7 +1,7 @@
 -- `counted` meets its contract: each total by what its call ensures.
 use borrow.Author.Needs.{needs}
-use Rattle.schedule.proofs.tally.Tally.counted.Statement.{statement}
-use Rattle.schedule.proofs.tally.Tally.counted.Tie as tie
+use Rattle.terms.proofs.tally.Tally.counted.Statement.{statement}
+use Rattle.terms.proofs.tally.Tally.counted.Tie as tie
 
 returns : tie.Need-returns
 returns c =

@@ -1,6 +1,6 @@
 -- Refusals of a whole file, in the paper's numbers. Renders "The numbers, by who can cause them": 1 to 4 and, for whoever lends a buffer, 8.
 use Prim.Native.Nat.{ℕ}
-use Rattle.schedule.specs.Types.{Refusal, Size, Short, Kind, Who, Room}
+use Rattle.terms.specs.Types.{Refusal, Size, Short, Kind, Who, Room}
 
 -- the number of each refusal
 abbrev pub numberOf : Refusal → ℕ

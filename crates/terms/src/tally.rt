@@ -1,6 +1,6 @@
 ghost use mathlib.Core.Path.{_≡_};
-ghost use Rattle.schedule.specs.Tally.{counted, countedIf, noneCounted};
-use terms::Outcome;
+ghost use Rattle.terms.specs.Tally.{counted, countedIf, noneCounted};
+use crate::outcome::Outcome;
 
 // How many entries came to three of the outcomes. A total that has reached the largest number stays there.
 pub struct Tally {
@@ -20,6 +20,8 @@ fn counted_if(counts: bool, total: u32) -> u32
         if total < 4294967295 {
             return total + 1;
         }
+        // At its largest it stays.
+        return total;
     }
     total
 }

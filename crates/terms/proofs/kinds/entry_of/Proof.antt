@@ -4,9 +4,9 @@ use borrow.Author.Needs.{needs}
 use native.Mathlib.Omega.{arith}
 use mathlib.Core.Path.{_≡_, sym}
 use lib.ListN.{List·getD-eq-default}
-use Rattle.schedule.specs.Entries.{meanings}
-use Rattle.schedule.proofs.entries.entry_of.Statement.{statement}
-use Rattle.schedule.proofs.entries.entry_of.Tie as tie
+use Rattle.terms.specs.Kinds.{meanings}
+use Rattle.terms.proofs.kinds.entry_of.Statement.{statement}
+use Rattle.terms.proofs.kinds.entry_of.Tie as tie
 
 -- a number that is at least n, and not n, is greater
 past : (k n : ℕ) → n ≤ k → (k ≡ n → ⊥) → suc n ≤ k

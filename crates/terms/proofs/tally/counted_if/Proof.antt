@@ -3,10 +3,10 @@ use mathlib.Core.Path.{sym, _∙_}
 use Prim.Native.Nat.{_+_}
 use borrow.Author.Needs.{needs}
 use borrow.Author.Tests.{le-ltb, lt-ltb}
-use Rattle.schedule.specs.Tally.{oneMore}
+use Rattle.terms.specs.Tally.{oneMore}
 use Rattle.terms.proofs.Laws.Tests.{by-test}
-use Rattle.schedule.proofs.tally.counted_if.Statement.{statement}
-use Rattle.schedule.proofs.tally.counted_if.Tie as tie
+use Rattle.terms.proofs.tally.counted_if.Statement.{statement}
+use Rattle.terms.proofs.tally.counted_if.Tie as tie
 
 returns : tie.Need-returns
 returns c =

@@ -1,6 +1,6 @@
 -- `allowed_if` meets its contract.
-use Rattle.schedule.proofs.entries.allowed_if.Statement.{statement}
-use Rattle.schedule.proofs.entries.allowed_if.Tie as tie
+use Rattle.terms.proofs.kinds.allowed_if.Statement.{statement}
+use Rattle.terms.proofs.kinds.allowed_if.Tie as tie
 
 returns : tie.Need-returns
 returns c = simp (c .if1 .taken)

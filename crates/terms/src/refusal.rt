@@ -1,5 +1,5 @@
 ghost use mathlib.Core.Path.{_≡_};
-ghost use Rattle.schedule.specs.Refusal.{numberOf, placeOf};
+ghost use Rattle.terms.specs.Refusal.{numberOf, placeOf};
 
 // Why a file is not read, or not written: it breaks a rule, or the memory that was lent is too small.
 pub enum Refusal {

@@ -1,0 +1,49 @@
+-- Kinds of entries: what a kind byte means, and which operands are allowed. Renders "Kinds", of "The schedule file", and 3 KIND and 4 WHO, of "The numbers", as far as one
+-- entry goes.
+use mathlib.Core.Bool.{Bool, cond}
+use mathlib.Core.List.{List, [], _∷_}
+use Prim.Native.Nat.{ℕ}
+use lib.Dec.{eqb, ltb}
+use lib.ListN.{getD}
+use Rattle.terms.specs.Types.{Allowed, BeginPut, BeginSteal, BeginTake, ClientStore, Drain, Entry, Kind, Meaning, ThiefStep, Who, WorkerStep}
+use Rattle.terms.specs.declared.kinds.Meaning.the-variants as meaning
+
+-- the kind and the operand of each entry, as a file has them
+abbrev pub kindOf : Entry → ℕ
+kindOf Drain = 0
+kindOf ClientStore = 1
+kindOf (BeginPut task) = 2
+kindOf BeginTake = 3
+kindOf WorkerStep = 4
+kindOf (BeginSteal thief) = 5
+kindOf (ThiefStep thief) = 6
+
+abbrev pub operandOf : Entry → ℕ
+operandOf Drain = 0
+operandOf ClientStore = 0
+operandOf (BeginPut task) = task
+operandOf BeginTake = 0
+operandOf WorkerStep = 0
+operandOf (BeginSteal thief) = thief
+operandOf (ThiefStep thief) = thief
+
+-- an entry, if its operand is allowed; else WHO
+abbrev pub allowedIf : Bool → ℕ → Entry → Meaning
+allowedIf allowed place entry = cond allowed (Allowed entry) (meaning.Refused (Who place))
+
+-- What the kinds mean, 0 first. Kind 2 takes any operand, the task's number; 5 and 6 take a thief, counted from 0 and so below the number
+-- of thieves; the others take 0 alone.
+abbrev pub meanings : ℕ → ℕ → ℕ → List Meaning
+meanings thieves place operand =
+    allowedIf (eqb operand 0) place Drain
+    ∷ allowedIf (eqb operand 0) place ClientStore
+    ∷ Allowed (BeginPut operand)
+    ∷ allowedIf (eqb operand 0) place BeginTake
+    ∷ allowedIf (eqb operand 0) place WorkerStep
+    ∷ allowedIf (ltb operand thieves) place (BeginSteal operand)
+    ∷ allowedIf (ltb operand thieves) place (ThiefStep operand)
+    ∷ []
+
+-- a kind byte and its operand, at a place of a schedule; a kind past the last is KIND, whatever its operand
+abbrev pub entryOf : ℕ → ℕ → ℕ → ℕ → Meaning
+entryOf thieves place kind operand = getD (meanings thieves place operand) kind (meaning.Refused (Kind place))
