@@ -7,7 +7,7 @@ use native.Mathlib.Omega.{arith}
 use lib.Dec.{leb}
 use lib.ListN.{length}
 use borrow.Author.Tests.{leb-true}
-use Rattle.terms.specs.Outcome.{isAnswer, valueOf}
+use Rattle.terms.specs.Outcome.{isAnswer}
 use Rattle.terms.proofs.Laws.Tests.{both-right}
 use Rattle.machine.specs.Effect.{Event, events, watchFresh}
 use Rattle.machine.specs.Linearizable.{Linearizable, answering, answersTo}
@@ -16,7 +16,7 @@ use Rattle.machine.specs.Machine.{fresh}
 use Rattle.machine.specs.Obey.{outcomesOf}
 use Rattle.machine.proofs.Linearizable.Theorem.{demand3}
 use Rattle.machine.proofs.Linearizable.Watched.{events-outcomes}
-use Rattle.schedule.specs.Types.{Accepted, Entry, Outcome, Ran, Reading, Refusal, Running, Sizes, Tally}
+use Rattle.schedule.specs.Types.{Accepted, Entry, Ran, Reading, Refusal, Running, Sizes, Tally}
 use Rattle.schedule.specs.declared.reader.Reading.the-variants as reading
 use Rattle.schedule.specs.declared.runner.Running.the-variants as running
 use Rattle.schedule.specs.Demand3.{RunLinearizes, TraceLinearizes, answerIn, answersIn, plainAnswers}

@@ -15,7 +15,7 @@ use Rattle.schedule.specs.Check.{checkRanges}
 use Rattle.schedule.specs.Entries.{checkEntries, entryAt}
 use Rattle.schedule.specs.Format.{decode, encode, entriesIn, fileOf, kindsIn, layout, operandsIn, sizeNumbers, sizesIn, wordsIn}
 use Rattle.schedule.specs.Reader.{kindPart, operandPart, partOf, startOf}
-use Rattle.schedule.specs.RoundTrip.{EntriesAsRead, EntryOfFile, Parts, PartsOfAccepted, ReadBack, ReadThenWritten, WrittenBack, WrittenThenRead}
+use Rattle.schedule.specs.RoundTrip.{EntriesAsRead, EntryOfFile, PartsOfAccepted, ReadBack, ReadThenWritten, WrittenBack, WrittenThenRead}
 use Rattle.schedule.specs.Writer.{writingOf, bufferAfter, bufferIf}
 use Rattle.schedule.proofs.Laws.Reader.{Readable, accepted-readable, readable-accepted}
 use Rattle.schedule.proofs.Laws.Writer.{Writable, few-entries, writable-passes, written-writable}

@@ -1,6 +1,6 @@
 -- A file run, and one step of a run. Renders "Order" and "Trace", of "The numbers", as far as they are about a run, 8 ROOM, and the totals of "The program's lines".
 use mathlib.Core.Bool.{cond}
-use mathlib.Core.List.{List, [], _∷_, map}
+use mathlib.Core.List.{List, [], _∷_}
 use Prim.Native.Nat.{ℕ}
 use lib.Dec.{ltb}
 use lib.ListN.{length}
@@ -9,7 +9,7 @@ use Rattle.terms.specs.Tally.{counted}
 use Rattle.machine.specs.Lists.{gather, upTo}
 use Rattle.machine.specs.Machine.{fresh}
 use Rattle.machine.specs.Obey.{obey, outcomesOf}
-use Rattle.schedule.specs.Types.{Accepted, Allowed, Entry, Machine, Meaning, Outcome, Ran, Reading, Room, Running, Sizes, Stepped, Tally}
+use Rattle.schedule.specs.Types.{Accepted, Allowed, Entry, Machine, Meaning, Outcome, Ran, Reading, Room, Running, Stepped, Tally}
 use Rattle.schedule.specs.declared.reader.Reading.the-variants as reading
 use Rattle.schedule.specs.declared.runner.Running.the-variants as running
 use Rattle.schedule.specs.Entries.{entryAt}

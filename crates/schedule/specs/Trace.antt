@@ -1,7 +1,7 @@
 -- The trace of a run. Renders "Trace", of "The numbers". Like a file it has one description, `traceLayout`: a trace is written by it, and what stands in a trace is read by it.
-use mathlib.Core.List.{List, [], _∷_, _++_, map}
+use mathlib.Core.List.{List, _∷_, _++_, map}
 use Prim.Native.Nat.{ℕ, _+_, _*_}
-use lib.ListN.{length, drop, getD, replicate, take}
+use lib.ListN.{length, getD, replicate}
 use Rattle.terms.specs.Outcome.{numberOf, valueOf}
 use Rattle.schedule.specs.Types.{Outcome}
 use Rattle.schedule.specs.Format.{decode, encode}

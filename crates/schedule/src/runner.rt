@@ -54,9 +54,10 @@ pub fn step(machine: Machine, tally: Tally, entry: Entry) -> Stepped
     let done = machine.obey(entry);
     let after = done.machine;
     let outcome = done.outcome;
+    let counted = tally.counted(outcome);
     Stepped {
         machine: after,
-        tally: tally.counted(outcome),
+        tally: counted,
         outcome: outcome,
     }
 }
@@ -66,8 +67,10 @@ fn put_outcome(trace: &mut [u8], entries: usize, at: usize, outcome: Outcome)
     requires { ⌜ (at < entries) × (4 + 5 * entries ≤ length (now trace)) × (entries ≤ 4096) ⌝ }
     ensures { λ _. ⌜ now (trace .exit) ≡ overwritten (4 + entries + 4 * at) (littleEndian 4 (valueOf outcome)) (overwritten (4 + at) (numberOf outcome ∷ []) (now (trace .entry))) ⌝ }
 {
-    trace[4 + at] = outcome.number();
-    put_word(trace, 4 + entries + 4 * at, outcome.value());
+    let number = outcome.number();
+    let value = outcome.value();
+    trace[4 + at] = number;
+    put_word(trace, 4 + entries + 4 * at, value);
 }
 
 // Obeys the entries of the two parts of a file, all of them allowed, from the fresh machine, and writes the trace.

@@ -5,7 +5,7 @@ use mathlib.Core.List.{List}
 use Prim.Native.Nat.{ℕ}
 use borrow.Author.Needs.{needs}
 use Rattle.terms.proofs.Laws.Tests.{known}
-use Rattle.schedule.specs.Types.{Accepted, Alike, FirstRefused, Likeness, NotAlike, SecondRefused, Sizes}
+use Rattle.schedule.specs.Types.{Accepted, Alike, FirstRefused, NotAlike, SecondRefused, Sizes}
 use Rattle.schedule.specs.Alike.{likeness, likenessOf, sameAnswers, sameSizes}
 use Rattle.schedule.specs.Reader.{readFile, refusalOf}
 use Rattle.schedule.proofs.Laws.Alike.{same-sizes}

@@ -14,15 +14,13 @@ put-word-requires : tie.Need-put-word-requires
 put-word-requires c κs = simp length-set (omega arith)
 
 same-length : tie.Need-same-length
-same-length c =
-    let a = c .before .before .before .before .before .before .before .args in
-    c .before .before .put-word .kept .0 ∙ length-set (a .trace .now) (4 + a .at) (c .before .before .before .before .before .number .result)
+same-length c = c .before .before .put-word .kept .0 ∙ simp length-set
 
 returns : tie.Need-returns
 returns c =
     let a = c .before .before .before .before .before .before .before .args in
     let number = c .before .before .before .before .before .number in
-    let value = c .before .before .before .value in
+    let value = c .before .before .before .before .value in
     c .before .before .put-word .ensures
     ∙ ap (λ l. overwritten (4 + a .entries + 4 * a .at) (littleEndian 4 (value .result)) l) (overwritten-one (4 + a .at) (number .result) (a .trace .now) (omega arith))
     ∙ (λ i. overwritten (4 + a .entries + 4 * a .at) (littleEndian 4 (value .ensures i)) (overwritten (4 + a .at) (number .ensures i ∷ []) (a .trace .now)))
@@ -32,12 +30,12 @@ put-outcome-spec =
     tie.close
     (tie.spec
     (λ c κs. search needs)
-    (λ c. search needs)
-    (λ c. search needs)
-    (λ c. search needs)
-    (λ c. search needs)
-    (λ c. search needs)
     (λ c κs. search needs)
+    (λ c. search needs)
+    (λ c. search needs)
+    (λ c. search needs)
+    (λ c. search needs)
+    (λ c. search needs)
     put-word-requires
     same-length
     returns)
