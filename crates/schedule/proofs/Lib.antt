@@ -1,5 +1,6 @@
 pub mod Laws
 pub mod Edges
+pub mod Runs
 pub mod Faults
 pub mod RoundTrip
 pub mod Totals

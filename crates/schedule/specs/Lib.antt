@@ -18,6 +18,7 @@
 -- what is refused, and for what         Faults
 -- reading what was written, and back    RoundTrip
 -- files at their edges, as a table      Edges
+-- runs and alike schedules, as a table  Runs
 pub mod Types
 pub mod Number
 pub mod Check
@@ -34,3 +35,4 @@ pub mod Comparison
 pub mod Faults
 pub mod RoundTrip
 pub mod Edges
+pub mod Runs

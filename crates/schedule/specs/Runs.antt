@@ -1,0 +1,208 @@
+-- Runs and alike schedules, as one table over the definitions: the example of "The program's lines", the last line of "Rehearsals" with its trace, M2 and M3 as traces, every outcome in the bytes of a trace, rooms one byte short, refusals in their order, and schedules that are
+-- alike or differ in one thing. `proofs/Runs.antt` proves one fact: every row holds.
+use mathlib.Core.Bool.{Bool, true, false, _&&_}
+use mathlib.Core.List.{List, [], _∷_, _++_, map}
+use Prim.Native.Nat.{ℕ}
+use lib.Dec.{eqb}
+use lib.ListN.{length, replicate}
+use Rattle.schedule.specs.Types.{Alike, FirstRefused, Likeness, NotAlike, Ran, Running, SecondRefused, Sizes}
+use Rattle.schedule.specs.Types.{BeginPut, BeginSteal, BeginTake, ClientStore, Drain, Entry, ThiefStep, WorkerStep}
+use Rattle.schedule.specs.declared.runner.Running.the-variants as running
+use Rattle.schedule.specs.Alike.{likeness}
+use Rattle.schedule.specs.Edges.{before, equal, exampleFile, refusedBy, sized}
+use Rattle.schedule.specs.Entries.{kindOf, operandOf}
+use Rattle.schedule.specs.Format.{fileOf}
+use Rattle.schedule.specs.Run.{runFile, traceAfter}
+
+-- ── Rows ────────────────────────────────────────────────────────────────────────────────────────────────────────────────────
+
+pub data Row : Type 0 where
+  -- a file that is run with a buffer of so many bytes: what the buffer holds afterwards, and the totals
+  runs : (file : List ℕ) (room : ℕ) (after : List ℕ) (given aborts waits : ℕ) → Row
+  -- a file that is not run, with number and place; the buffer, of so many bytes, holds what it held
+  declines : (file : List ℕ) (room number place : ℕ) → Row
+  -- two files that are alike, and two that are not
+  like : (first second : List ℕ) → Row
+  unlike : (first second : List ℕ) → Row
+  -- two files of which the first is refused, or else the second, with number and place
+  refusesFirst : (first second : List ℕ) (number place : ℕ) → Row
+  refusesSecond : (first second : List ℕ) (number place : ℕ) → Row
+
+abbrev pub isRun : ℕ → ℕ → ℕ → Running → Bool
+isRun given aborts waits (Ran t) = eqb (t .given) given && eqb (t .aborts) aborts && eqb (t .waits) waits
+isRun given aborts waits (running.Refused r) = false
+
+abbrev pub isNotRun : ℕ → ℕ → Running → Bool
+isNotRun number place (Ran t) = false
+isNotRun number place (running.Refused r) = refusedBy r number place
+
+abbrev pub isLike : Likeness → Bool
+isLike Alike = true
+isLike NotAlike = false
+isLike (FirstRefused r) = false
+isLike (SecondRefused r) = false
+
+abbrev pub isUnlike : Likeness → Bool
+isUnlike Alike = false
+isUnlike NotAlike = true
+isUnlike (FirstRefused r) = false
+isUnlike (SecondRefused r) = false
+
+abbrev pub isFirstRefused : ℕ → ℕ → Likeness → Bool
+isFirstRefused number place Alike = false
+isFirstRefused number place NotAlike = false
+isFirstRefused number place (FirstRefused r) = refusedBy r number place
+isFirstRefused number place (SecondRefused r) = false
+
+abbrev pub isSecondRefused : ℕ → ℕ → Likeness → Bool
+isSecondRefused number place Alike = false
+isSecondRefused number place NotAlike = false
+isSecondRefused number place (FirstRefused r) = false
+isSecondRefused number place (SecondRefused r) = refusedBy r number place
+
+abbrev pub holds : Row → Bool
+holds (runs file room after given aborts waits) =
+    isRun given aborts waits (runFile file room) && equal (traceAfter file (before room)) after
+holds (declines file room number place) = isNotRun number place (runFile file room) && equal (traceAfter file (before room)) (before room)
+holds (like first second) = isLike (likeness first second)
+holds (unlike first second) = isUnlike (likeness first second)
+holds (refusesFirst first second number place) = isFirstRefused number place (likeness first second)
+holds (refusesSecond first second number place) = isSecondRefused number place (likeness first second)
+
+-- ── Files and parts of traces ───────────────────────────────────────────────────────────────────────────────────────────────
+
+-- the file of a schedule
+abbrev pub file : Sizes → List Entry → List ℕ
+file s es = fileOf s (map kindOf es) (map operandOf es)
+
+-- a put that need not wait, and the drains of its two stores
+abbrev pub put : ℕ → List Entry
+put x = BeginPut x ∷ WorkerStep ∷ WorkerStep ∷ WorkerStep ∷ []
+
+abbrev pub drains : List Entry
+drains = Drain ∷ Drain ∷ []
+
+-- a take of a task that is not the last one
+abbrev pub take : List Entry
+take = BeginTake ∷ WorkerStep ∷ WorkerStep ∷ WorkerStep ∷ []
+
+abbrev pub steal : ℕ → List Entry
+steal i = BeginSteal i ∷ replicate 6 (ThiefStep i)
+
+-- the values of so many entries that gave no task
+abbrev pub noTask : ℕ → List ℕ
+noTask n = replicate n 0 ++ replicate n 0 ++ replicate n 0 ++ replicate n 0
+
+-- ── The rows ────────────────────────────────────────────────────────────────────────────────────────────────────────────────
+
+-- the trace of the example of "The program's lines"
+abbrev pub exampleTrace : List ℕ
+exampleTrace = (6 ∷ 0 ∷ 0 ∷ 0 ∷ []) ++ (0 ∷ 0 ∷ 0 ∷ 7 ∷ 0 ∷ 16 ∷ []) ++ noTask 6
+
+-- M2 and M3, which differ in the margin: the thief gets 11 once more, or ABORT
+abbrev pub twoTakesAndASteal : List Entry
+twoTakesAndASteal = put 11 ++ drains ++ put 12 ++ drains ++ take ++ take ++ steal 0
+
+abbrev pub twoTakes : List ℕ
+twoTakes = (27 ∷ 0 ∷ 0 ∷ 0 ∷ []) ++ (0 ∷ 0 ∷ 0 ∷ 16 ∷ 0 ∷ 0 ∷ 0 ∷ 0 ∷ 0 ∷ 16 ∷ 0 ∷ 0 ∷ 0 ∷ 0 ∷ 0 ∷ 17 ∷ 0 ∷ 0 ∷ 0 ∷ 17 ∷ [])
+
+abbrev pub twoTaken : List ℕ
+twoTaken = noTask 15 ++ (12 ∷ 0 ∷ 0 ∷ 0 ∷ []) ++ noTask 3 ++ (11 ∷ 0 ∷ 0 ∷ 0 ∷ []) ++ noTask 6
+
+-- every outcome but FULL, and a task whose number has four different bytes
+abbrev pub manyOutcomes : List Entry
+manyOutcomes =
+    (WorkerStep ∷ [])
+    ++ put 305419896
+    ++ (BeginPut 1 ∷ WorkerStep ∷ [])
+    ++ (Drain ∷ Drain ∷ Drain ∷ [])
+    ++ steal 0
+    ++ take
+    ++ (BeginTake ∷ ClientStore ∷ ClientStore ∷ BeginTake ∷ WorkerStep ∷ Drain ∷ Drain ∷ [])
+    ++ (WorkerStep ∷ WorkerStep ∷ WorkerStep ∷ Drain ∷ WorkerStep ∷ WorkerStep ∷ WorkerStep ∷ WorkerStep ∷ Drain ∷ WorkerStep ∷ [])
+
+abbrev pub manyNumbers : List ℕ
+manyNumbers =
+    (5 ∷ [])
+    ++ (0 ∷ 0 ∷ 0 ∷ 16 ∷ [])
+    ++ (0 ∷ 21 ∷ [])
+    ++ (0 ∷ 0 ∷ 7 ∷ [])
+    ++ (0 ∷ 0 ∷ 0 ∷ 0 ∷ 0 ∷ 0 ∷ 19 ∷ [])
+    ++ (0 ∷ 0 ∷ 0 ∷ 17 ∷ [])
+    ++ (6 ∷ 0 ∷ 7 ∷ 0 ∷ 7 ∷ 0 ∷ 0 ∷ [])
+    ++ (0 ∷ 0 ∷ 7 ∷ 0 ∷ 0 ∷ 0 ∷ 0 ∷ 7 ∷ 0 ∷ 18 ∷ [])
+
+abbrev pub ranRows : List Row
+ranRows =
+    runs exampleFile 34 exampleTrace 0 0 1
+    ∷ runs exampleFile 37 (exampleTrace ++ before 3) 0 0 1
+    ∷ declines exampleFile 33 8 0
+    ∷ declines exampleFile 0 8 0
+    ∷ runs (file (sized 4 1 0 1 1 0) []) 4 (0 ∷ 0 ∷ 0 ∷ 0 ∷ []) 0 0 0
+    ∷ declines (file (sized 4 1 0 1 1 0) []) 3 8 0
+    ∷ runs (file (sized 4 2 0 1 1 0) twoTakesAndASteal) 139 (twoTakes ++ (0 ∷ 0 ∷ 0 ∷ 0 ∷ 0 ∷ 0 ∷ 17 ∷ []) ++ twoTaken ++ (11 ∷ 0 ∷ 0 ∷ 0 ∷ [])) 3 0 0
+    ∷ runs (file (sized 4 2 0 2 1 0) twoTakesAndASteal) 139 (twoTakes ++ (0 ∷ 0 ∷ 0 ∷ 0 ∷ 0 ∷ 0 ∷ 19 ∷ []) ++ twoTaken ++ noTask 1) 2 1 0
+    ∷ runs (file (sized 4 2 0 0 1 0) twoTakesAndASteal) 139 (twoTakes ++ (0 ∷ 0 ∷ 0 ∷ 0 ∷ 0 ∷ 0 ∷ 19 ∷ []) ++ twoTaken ++ noTask 1) 2 1 0
+    ∷ runs (file (sized 2 2 1 0 1 2147483646) manyOutcomes) 194
+    ((38 ∷ 0 ∷ 0 ∷ 0 ∷ []) ++ manyNumbers ++ noTask 20 ++ (120 ∷ 86 ∷ 52 ∷ 18 ∷ []) ++ noTask 17) 1 1 5
+    ∷ runs (file (sized 2 2 0 2 1 0) (put 1 ++ drains ++ (BeginPut 2 ∷ WorkerStep ∷ []))) 44
+    ((8 ∷ 0 ∷ 0 ∷ 0 ∷ []) ++ (0 ∷ 0 ∷ 0 ∷ 16 ∷ 0 ∷ 0 ∷ 0 ∷ 20 ∷ []) ++ noTask 8) 0 0 0
+    ∷ declines [] 0 2 0
+    ∷ declines (file (sized 4 65 0 1 1 0) []) 0 1 1
+    ∷ declines (file (sized 4 1 0 1 1 0) (ThiefStep 0 ∷ ThiefStep 1 ∷ [])) 0 4 1
+    ∷ declines (exampleFile ++ (0 ∷ [])) 100 2 0
+    ∷ []
+
+-- a schedule under six sizes, and the answers in it: one put, one take, an ABORT for a thief
+abbrev pub plain : List Entry → List ℕ
+plain es = file (sized 8 2 0 2 2 0) es
+
+abbrev pub one : List Entry
+one = put 7 ++ drains ++ take
+
+abbrev pub three : ℕ → List Entry
+three x = put x ++ drains ++ put 2 ++ drains ++ put 3 ++ drains
+
+abbrev pub likenessRows : List Row
+likenessRows =
+    like (plain []) (plain [])
+    ∷ like (plain one) (plain one)
+    -- other refusals, and other entries beside the answers
+    ∷ like (plain one) (plain (WorkerStep ∷ Drain ∷ one))
+    ∷ like (plain one) (plain (one ++ (BeginTake ∷ BeginTake ∷ ThiefStep 1 ∷ [])))
+    ∷ like (plain (one ++ (Drain ∷ Drain ∷ []))) (plain one)
+    -- the order between parties
+    ∷ like (plain (steal 0 ++ put 7 ++ drains)) (plain (put 7 ++ drains ++ steal 0))
+    ∷ like (plain (steal 0 ++ steal 1)) (plain (steal 1 ++ steal 0))
+    -- another value, another answer, one answer more or less
+    ∷ unlike (plain one) (plain (put 8 ++ drains ++ take))
+    ∷ unlike (plain (put 7 ++ drains ++ put 7)) (plain one)
+    ∷ unlike (plain one) (plain (put 7))
+    ∷ unlike (plain (put 7)) (plain one)
+    ∷ unlike (plain (put 7)) (plain [])
+    -- a thief's answers: another thief, another value, one more or less; the worker's are the same
+    ∷ unlike (plain (steal 0)) (plain (steal 1))
+    ∷ unlike (plain (three 1 ++ steal 0)) (plain (three 9 ++ steal 0))
+    ∷ like (plain (three 1 ++ steal 0)) (plain (three 1 ++ steal 0))
+    ∷ unlike (plain (steal 1)) (plain [])
+    ∷ unlike (plain []) (plain (steal 1))
+    ∷ unlike (plain (three 1 ++ steal 0 ++ steal 0)) (plain (three 1 ++ steal 0 ++ (BeginSteal 0 ∷ [])))
+    -- the same answers in another order
+    ∷ unlike (plain (put 1 ++ drains ++ put 2 ++ drains ++ take ++ take)) (plain (put 2 ++ drains ++ put 1 ++ drains ++ take ++ take))
+    -- other sizes, each by itself; a margin of 0 is not the buffer size
+    ∷ unlike (plain []) (file (sized 9 2 0 2 2 0) [])
+    ∷ unlike (plain []) (file (sized 8 3 0 2 2 0) [])
+    ∷ unlike (plain []) (file (sized 8 2 1 2 2 0) [])
+    ∷ unlike (plain []) (file (sized 8 2 0 0 2 0) [])
+    ∷ unlike (plain []) (file (sized 8 2 0 2 3 0) [])
+    ∷ unlike (plain []) (file (sized 8 2 0 2 2 1) [])
+    -- refused files: the first one's first
+    ∷ refusesFirst [] (plain one) 2 0
+    ∷ refusesFirst (file (sized 8 2 0 2 0 0) []) [] 1 4
+    ∷ refusesSecond (plain one) [] 2 0
+    ∷ refusesSecond (plain one) (plain (Drain ∷ ThiefStep 2 ∷ [])) 4 1
+    ∷ refusesSecond (plain []) (file (sized 9 2 0 2 9 0) []) 1 4
+    ∷ []
+
+abbrev pub table : List Row
+table = ranRows ++ likenessRows
