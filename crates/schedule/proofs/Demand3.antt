@@ -16,9 +16,8 @@ use Rattle.machine.specs.Machine.{fresh}
 use Rattle.machine.specs.Obey.{outcomesOf}
 use Rattle.machine.proofs.Linearizable.Theorem.{demand3}
 use Rattle.machine.proofs.Linearizable.Watched.{events-outcomes}
-use Rattle.schedule.specs.Types.{Accepted, Entry, Ran, Reading, Refusal, Running, Sizes, Tally}
+use Rattle.schedule.specs.Types.{Accepted, Entry, Ran, Reading, Running, Sizes, Tally}
 use Rattle.schedule.specs.declared.reader.Reading.the-variants as reading
-use Rattle.schedule.specs.declared.runner.Running.the-variants as running
 use Rattle.schedule.specs.Demand3.{RunLinearizes, TraceLinearizes, answerIn, answersIn, plainAnswers}
 use Rattle.schedule.specs.Format.{entriesIn, sizesIn}
 use Rattle.schedule.specs.Number.{allBelow, overwritten}
@@ -28,7 +27,7 @@ use Rattle.schedule.specs.Trace.{Line, lineOf, traceOf}
 use Rattle.schedule.proofs.Laws.Check.{ranges-passed, ranges-sizes}
 use Rattle.schedule.proofs.Laws.Reader.{accepted-readable}
 use Rattle.schedule.proofs.Laws.Trace.{answersIn-written}
-use Rattle.schedule.proofs.Laws.Run.{file-values-fit, length-outcomesOf, schedule-length}
+use Rattle.schedule.proofs.Laws.Run.{file-values-fit, length-outcomesOf, not-both-run, schedule-length}
 
 -- ── Answers ─────────────────────────────────────────────────────────────────────────────────────────────────────────────────
 
@@ -56,10 +55,6 @@ answers-plain s es claim =
     ∙ map-map (map lineOf) (λ v. answersTo (v .call)) (answering h)
 
 -- ── A file that was run ─────────────────────────────────────────────────────────────────────────────────────────────────────
-
--- a file is not both run and refused
-not-both-run : {t : Tally} {r : Refusal} → running.Refused r ≡ Ran t → ⊥
-not-both-run e = let clash : _≡_ {A = ℕ} 0 1 = cc in omega arith
 
 -- what was run was accepted
 ran-accepted : (file : List ℕ) (room : ℕ) (t : Tally) → runFile file room ≡ Ran t → readFile file ≡ Accepted (sizesIn file) (entriesIn file)

@@ -1,22 +1,28 @@
--- What is refused has the fault that is told, and what has a fault is refused: by the reader and by the writer.
+-- What is refused has the fault that is told, and what has a fault is refused: by the reader, by the writer, and where a file is run.
 use mathlib.Core.Path.{_≡_, refl, ap, sym, _∙_}
-use mathlib.Core.Bool.{Bool, true, false, cond, not, _&&_, _||_}
+use mathlib.Core.Bool.{Bool, true, false, cond, not, _&&_, _||_, false≢true}
 use mathlib.Core.List.{List}
 use Prim.Native.Nat.{ℕ, zero, suc, _+_, _*_, _≤_, _<_}
 use native.Mathlib.Omega.{arith}
 use lib.Dec.{eqb, leb, ltb}
 use lib.ListN.{getD, length}
 use borrow.Author.Tests.{eq-eqb, le-leb, le-ltb, lt-ltb, ltb-false, ltb-true, ne-eqb}
-use Rattle.schedule.specs.Types.{Accepted, Check, Failed, Kind, Passed, Refusal, Room, Short, Size, Sizes, Who, Written}
+use Rattle.schedule.specs.Types.{Accepted, Check, Failed, Kind, Passed, Ran, Reading, Refusal, Room, Short, Size, Sizes, Tally, Who, Written}
 use Rattle.schedule.specs.declared.reader.Reading.the-variants as reading
+use Rattle.schedule.specs.declared.runner.Running.the-variants as running
 use Rattle.schedule.specs.declared.writer.Writing.the-variants as writing
 use Rattle.schedule.specs.Check.{checkRanges}
 use Rattle.schedule.specs.Entries.{checkEntries, checkOf, entryAt}
-use Rattle.schedule.specs.Faults.{ReaderRefusesFaults, RefusedUntouched, WriterRefusesFaults, fileHas, hasFault, operandAllowed, writingHas}
+use Rattle.schedule.specs.Faults.{ReaderRefusesFaults, RefusedRunUntouched, RefusedUntouched, RunnerRefusesFaults, WriterRefusesFaults}
+use Rattle.schedule.specs.Faults.{faultsOf, fileHas, hasFault, operandAllowed, runHas, writingHas}
 use Rattle.schedule.specs.Format.{entriesIn, fileOf, kindsIn, operandsIn, sizesIn}
 use Rattle.schedule.specs.Reader as reader
+use Rattle.schedule.specs.Run.{outcomesIn, runningOf, traceIf}
+use Rattle.schedule.specs.Totals.{tallyOf}
+use Rattle.schedule.specs.Trace.{traceLength, traceOf}
 use Rattle.schedule.specs.Writer as writer
 use Rattle.schedule.proofs.Laws.Reader.{accepted-readable, refused-reading}
+use Rattle.schedule.proofs.Laws.Run.{not-both-run}
 use Rattle.schedule.proofs.Laws.Writer.{not-both-written, refused-writing, written-writable}
 use Rattle.schedule.proofs.Laws.Check.{failIf-failed, not-both}
 use Rattle.schedule.proofs.Laws.Check.{ranges-failed, ranges-passed, upTo-failed}
@@ -158,3 +164,43 @@ refused-untouched s kinds operands buffer r e = go (writer.checkWriting s kinds 
     go : (c : Check) → writer.writingOf (28 + 5 * length kinds) c ≡ writing.Refused r → writer.bufferIf (fileOf s kinds operands) buffer c ≡ buffer
     go Passed told = absurd (not-both-written told)
     go (Failed q) told = refl
+
+-- ── Running ─────────────────────────────────────────────────────────────────────────────────────────────────────────────────
+
+-- a fault that a file has when it is read, it has when it is run
+still-fault : (file : List ℕ) (noRoom : Bool) (r : Refusal) → faultsOf file false r ≡ true → faultsOf file noRoom r ≡ true
+still-fault file noRoom (Size place) e = e
+still-fault file noRoom Short e = e
+still-fault file noRoom (Kind at) e = e
+still-fault file noRoom (Who at) e = e
+still-fault file noRoom Room e = absurd (false≢true e)
+
+pub runner-refuses-faults : RunnerRefusesFaults
+runner-refuses-faults file room r = (refused (reader.readFile file) refl, ran (reader.readFile file) refl)
+  where
+    small : Bool
+    small = ltb room (traceLength (entriesIn file))
+
+    refused : (answer : Reading) → reader.readFile file ≡ answer → runningOf file room answer ≡ running.Refused r → runHas file room r ≡ true
+    refused (reading.Refused q) read told =
+        let same : q ≡ r = cc in still-fault file small r (reader-refuses-faults file r .0 (read ∙ ap reading.Refused same))
+    refused (Accepted s n) read told = go (ltb room (traceLength n)) refl told
+      where
+        go : (b : Bool) → ltb room (traceLength n) ≡ b → cond b (running.Refused Room) (Ran (tallyOf (outcomesIn file))) ≡ running.Refused r → runHas file room r ≡ true
+        go true test told =
+            let same : r ≡ Room = cc in
+            rw same (ap (λ k. ltb room (traceLength k)) (sym (accepted-readable file s n read .1 .0)) ∙ test)
+        go false test told = absurd (not-both-run (sym told))
+
+    ran : (answer : Reading) → reader.readFile file ≡ answer → (t : Tally) → runningOf file room answer ≡ Ran t → runHas file room r ≡ false
+    ran (reading.Refused q) read t told = absurd (not-both-run told)
+    ran (Accepted s n) read t told = go (ltb room (traceLength n)) refl told
+      where
+        go : (b : Bool) → ltb room (traceLength n) ≡ b → cond b (running.Refused Room) (Ran (tallyOf (outcomesIn file))) ≡ Ran t → runHas file room r ≡ false
+        go true test told = absurd (not-both-run told)
+        go false test told =
+            ap (λ b. faultsOf file b r) (ap (λ k. ltb room (traceLength k)) (sym (accepted-readable file s n read .1 .0)) ∙ test)
+            ∙ reader-refuses-faults file r .1 s n read
+
+pub refused-run-untouched : RefusedRunUntouched
+refused-run-untouched file trace r e = ap (traceIf (traceOf (outcomesIn file)) trace) e

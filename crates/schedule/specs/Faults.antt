@@ -1,17 +1,20 @@
--- What is refused, and for what. Renders 1 to 4, of "The numbers", one by one and without their order, and 8 for the writer. `Reader` and `Writer` say which of several faults is told; here stands that what is told is a
--- fault, that what has a fault is refused, and that a refused writing leaves the buffer as it was. Kinds and operands are said a second time here, in other words; ranges and layout are those of `Check` and `Format`. Proved in `proofs/Faults.antt`.
+-- What is refused, and for what. Renders 1 to 4, of "The numbers", one by one and without their order, and 8 for the writer and for a run. `Reader`, `Writer` and `Run` say which of several faults is told; here stands that what is told is a
+-- fault, that what has a fault is refused, and that a refusal leaves the lent buffer as it was. Kinds and operands are said a second time here, in other words; ranges and layout are those of `Check` and `Format`. Proved in `proofs/Faults.antt`.
 use mathlib.Core.Path.{_≡_}
 use mathlib.Core.Bool.{Bool, true, false, cond, not, _&&_, _||_}
 use mathlib.Core.List.{List}
 use Prim.Native.Nat.{ℕ}
 use lib.Dec.{eqb, leb, ltb}
 use lib.ListN.{length, getD}
-use Rattle.schedule.specs.Types.{Accepted, Kind, Refusal, Room, Short, Size, Sizes, Who, Written}
+use Rattle.schedule.specs.Types.{Accepted, Kind, Ran, Refusal, Room, Short, Size, Sizes, Tally, Who, Written}
 use Rattle.schedule.specs.declared.reader.Reading.the-variants as reading
+use Rattle.schedule.specs.declared.runner.Running.the-variants as running
 use Rattle.schedule.specs.declared.writer.Writing.the-variants as writing
 use Rattle.schedule.specs.Check.{sizesKept}
 use Rattle.schedule.specs.Format.{entriesIn, fileLength, kindsIn, operandsIn, sizesIn}
 use Rattle.schedule.specs.Reader.{readFile}
+use Rattle.schedule.specs.Run.{runFile, traceAfter}
+use Rattle.schedule.specs.Trace.{traceLength}
 use Rattle.schedule.specs.Writer.{bufferAfter, writeFile}
 
 -- any number for kind 2, a thief below the number of thieves for 5 and 6, and 0 for the others
@@ -27,12 +30,19 @@ hasFault s entries kinds operands wrongLength noRoom (Who at) =
     ltb at entries && (leb (getD kinds at 0) 6 && not (operandAllowed (s .thieves) (getD kinds at 0) (getD operands at 0)))
 hasFault s entries kinds operands wrongLength noRoom Room = noRoom
 
--- a file: SHORT is a file without room for the seven sizes, or of another length than these say; no file is refused for want of room. (Where sizes are missing, their bytes count as 0.)
-abbrev pub fileHas : List ℕ → Refusal → Bool
-fileHas file =
+-- a file: SHORT is a file without room for the seven sizes, or of another length than these say. (Where sizes are missing, their bytes count as 0.)
+abbrev pub faultsOf : List ℕ → Bool → Refusal → Bool
+faultsOf file =
     hasFault (sizesIn file) (entriesIn file) (kindsIn (entriesIn file) file) (operandsIn (entriesIn file) file)
     (ltb (length file) 28 || not (eqb (length file) (fileLength (entriesIn file))))
-    false
+
+-- a file that is only read is never refused for want of room
+abbrev pub fileHas : List ℕ → Refusal → Bool
+fileHas file = faultsOf file false
+
+-- a file that is run: ROOM is a buffer that its trace does not fit in
+abbrev pub runHas : List ℕ → ℕ → Refusal → Bool
+runHas file room = faultsOf file (ltb room (traceLength (entriesIn file)))
 
 -- what a writer is handed: SHORT is arrays of different lengths, ROOM a buffer that the file does not fit in
 abbrev pub writingHas : Sizes → List ℕ → List ℕ → ℕ → Refusal → Bool
@@ -53,8 +63,18 @@ WriterRefusesFaults =
     → (writeFile s kinds operands room ≡ writing.Refused r → writingHas s kinds operands room r ≡ true)
     × ((n : ℕ) → writeFile s kinds operands room ≡ Written n → writingHas s kinds operands room r ≡ false)
 
+-- and so does whoever runs a file
+abbrev pub RunnerRefusesFaults : Type 0
+RunnerRefusesFaults =
+    (file : List ℕ) (room : ℕ) (r : Refusal)
+    → (runFile file room ≡ running.Refused r → runHas file room r ≡ true)
+    × ((t : Tally) → runFile file room ≡ Ran t → runHas file room r ≡ false)
+
 -- what is refused leaves the lent buffer as it was
 abbrev pub RefusedUntouched : Type 0
 RefusedUntouched =
     (s : Sizes) (kinds operands buffer : List ℕ) (r : Refusal)
     → writeFile s kinds operands (length buffer) ≡ writing.Refused r → bufferAfter s kinds operands buffer ≡ buffer
+
+abbrev pub RefusedRunUntouched : Type 0
+RefusedRunUntouched = (file trace : List ℕ) (r : Refusal) → runFile file (length trace) ≡ running.Refused r → traceAfter file trace ≡ trace

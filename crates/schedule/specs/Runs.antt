@@ -4,13 +4,13 @@ use mathlib.Core.Bool.{Bool, true, false, _&&_}
 use mathlib.Core.List.{List, [], _∷_, _++_, map}
 use Prim.Native.Nat.{ℕ}
 use lib.Dec.{eqb}
-use lib.ListN.{length, replicate}
+use lib.ListN.{replicate}
 use Rattle.schedule.specs.Types.{Alike, FirstRefused, Likeness, NotAlike, Ran, Running, SecondRefused, Sizes}
 use Rattle.schedule.specs.Types.{BeginPut, BeginSteal, BeginTake, ClientStore, Drain, Entry, ThiefStep, WorkerStep}
 use Rattle.schedule.specs.declared.runner.Running.the-variants as running
 use Rattle.schedule.specs.Alike.{likeness}
 use Rattle.schedule.specs.Edges.{before, equal, exampleFile, refusedBy, sized}
-use Rattle.schedule.specs.Entries.{kindOf, operandOf}
+use Rattle.terms.specs.Kinds.{kindOf, operandOf}
 use Rattle.schedule.specs.Format.{fileOf}
 use Rattle.schedule.specs.Run.{runFile, traceAfter}
 

@@ -10,7 +10,7 @@ pub(crate) enum Check {
     Failed(Refusal),
 }
 
-// Whether the seven sizes are in range. The lower library knows the first six; the seventh is the number of entries.
+// Whether the seven sizes are in range. `terms` knows the first six; the seventh is the number of entries.
 pub(crate) fn check_ranges(sizes: Sizes, entries: usize) -> Check
     ensures { λ r. ⌜ r ≡ checkRanges sizes entries ⌝ }
 {

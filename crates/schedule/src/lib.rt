@@ -1,4 +1,4 @@
-// The upper library of the rehearsal bench: schedule files.
+// The upper library of the rehearsal bench: schedule files, and what comes of running them.
 //
 // A schedule is six sizes, which set up a machine, and a list of entries for it to obey. Its file is bytes that anybody may
 // have made, so nothing is believed of them: `read` answers the sizes and the number of entries, or a refusal that says
@@ -6,14 +6,21 @@
 // the same bytes, and nothing is copied. `write` makes the file of a schedule in memory that the caller lends, and
 // touches none of it unless the whole file is right and fits.
 //
-// Both go by one layout (`specs/Format.antt`), and what one writes the other reads, and the other way round
+// `run` obeys every entry of a file from the fresh machine and writes the trace into memory that the caller lends, of which a
+// refusal touches nothing; it tells the totals. With enough margin the answers in that trace are those of a plain queue, and its
+// promise says so (`specs/Demand3.antt`). `step` is one entry of a run, to watch. `alike` says whether two schedules give the
+// worker and each thief the same answers.
+//
+// Reader and writer go by one layout (`specs/Format.antt`), and what one writes the other reads, and the other way round
 // (`specs/RoundTrip.antt`). Sizes, entries with their kinds, outcomes, refusals and totals are those of the library `terms`.
 // No function here asks anything of its caller. Reading order:
 //
 // - `check`: what a check comes to, and the check of the sizes;
 // - `number`: numbers in bytes;
 // - `entries`: one entry, and the first faulty one;
-// - `reader`, `writer`: a file as a whole.
+// - `reader`, `writer`: a file as a whole;
+// - `runner`: one step, and a run with its trace;
+// - `likeness`: whether two schedules are alike.
 mod check;
 mod entries;
 mod likeness;

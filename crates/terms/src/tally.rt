@@ -4,7 +4,7 @@ use crate::outcome::Outcome;
 
 // How many entries came to three of the outcomes. A total that has reached the largest number stays there.
 pub struct Tally {
-    // TASK: a block was handed out.
+    // TASK: a task was handed out.
     pub given: u32,
     // ABORT: a thief went away with nothing, since the margin was not kept.
     pub aborts: u32,

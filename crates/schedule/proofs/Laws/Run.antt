@@ -253,6 +253,10 @@ parts-obeyed file s n accepted =
 
 -- ── What decides a run ──────────────────────────────────────────────────────────────────────────────────────────────────────
 
+-- a file is not both run and refused
+pub not-both-run : {t : Tally} {r : Refusal} → running.Refused r ≡ Ran t → ⊥
+not-both-run e = let clash : _≡_ {A = ℕ} 0 1 = cc in omega arith
+
 module _ (file : List ℕ) (room : ℕ) where
   pub run-refused : (r : Refusal) → readFile file ≡ reading.Refused r → runFile file room ≡ running.Refused r
   run-refused r told = ap (runningOf file room) told

@@ -1,4 +1,4 @@
--- `check_ranges` meets its contract: the lower library's answer decides, and after it the number of entries.
+-- `check_ranges` meets its contract: the answer of `terms` decides, and after it the number of entries.
 use mathlib.Core.Path.{_≡_, _∙_, sym}
 use mathlib.Core.Bool.{false, true}
 use borrow.Author.Needs.{needs}
