@@ -16,7 +16,7 @@ alike-test true e = refl
 alike-test false e = let clash : _≡_ {A = ℕ} 0 1 = cc in absurd (omega arith)
 
 pub alike-exactly : AlikeExactly
-alike-exactly first second s t n m read other-read = (equals, alike)
+alike-exactly first second s t n m read other-read = (equals, alike, λ differ. unlike differ (sameSizes s t && sameAnswers (s .thieves) first second) by-tests)
   where
     by-tests : likeness first second ≡ cond (sameSizes s t && sameAnswers (s .thieves) first second) Alike NotAlike
     by-tests = λ i. likenessOf first second (read i) (other-read i)
@@ -38,3 +38,7 @@ alike-exactly first second s t n m read other-read = (equals, alike)
         let sizes = equal-sizes s t (e .sizes) in
         let answers = all-below same-for (s .thieves + 1) (λ party h. equal-lines (answersOf party first) (answersOf party second) (e .answers party h)) in
         by-tests ∙ (λ i. cond (sizes i && answers i) Alike NotAlike)
+
+    unlike : (Equals first second s t → ⊥) → (b : Bool) → likeness first second ≡ cond b Alike NotAlike → likeness first second ≡ NotAlike
+    unlike differ true e = absurd (differ (equals e))
+    unlike differ false e = e

@@ -4,5 +4,6 @@ pub mod Runs
 pub mod Faults
 pub mod RoundTrip
 pub mod Totals
+pub mod Schedules
 pub mod Demand3
 pub mod AlikeExactly

@@ -13,24 +13,24 @@ use Rattle.schedule.specs.Run.{outcomesIn, scheduleIn}
 use Rattle.schedule.specs.Trace.{Line, lineOf}
 
 -- whose entry it is, counted: the worker is 0, and thief i is i + 1
-abbrev pub partyOf : Entry → ℕ
-partyOf Drain = 0
-partyOf ClientStore = 0
-partyOf (BeginPut x) = 0
-partyOf BeginTake = 0
-partyOf WorkerStep = 0
-partyOf (BeginSteal i) = i + 1
-partyOf (ThiefStep i) = i + 1
+abbrev pub partyNumber : Entry → ℕ
+partyNumber Drain = 0
+partyNumber ClientStore = 0
+partyNumber (BeginPut x) = 0
+partyNumber BeginTake = 0
+partyNumber WorkerStep = 0
+partyNumber (BeginSteal i) = i + 1
+partyNumber (ThiefStep i) = i + 1
 
 -- the answers that a party gets, with their values, in their order; 0, 5, 6 and 7 are no answers
-abbrev pub answersTo : ℕ → List Entry → List Outcome → List Line
-answersTo party [] os = []
-answersTo party (e ∷ es) [] = []
-answersTo party (e ∷ es) (o ∷ os) = cond (isAnswer o && eqb (partyOf e) party) (lineOf o ∷ answersTo party es os) (answersTo party es os)
+abbrev pub answersFor : ℕ → List Entry → List Outcome → List Line
+answersFor party [] os = []
+answersFor party (e ∷ es) [] = []
+answersFor party (e ∷ es) (o ∷ os) = cond (isAnswer o && eqb (partyNumber e) party) (lineOf o ∷ answersFor party es os) (answersFor party es os)
 
 -- the answers that a party gets in the run of a file
 abbrev pub answersOf : ℕ → List ℕ → List Line
-answersOf party file = answersTo party (scheduleIn file) (outcomesIn file)
+answersOf party file = answersFor party (scheduleIn file) (outcomesIn file)
 
 -- the same number and the same value
 abbrev pub sameLine : Line → Line → Bool
@@ -53,7 +53,7 @@ sameSizes s t =
     && eqb (s .thieves) (t .thieves)
     && eqb (s .start) (t .start)
 
--- the worker and each thief get the same answers from two files
+-- no party's answers differ between two files
 abbrev pub sameAnswers : ℕ → List ℕ → List ℕ → Bool
 sameAnswers thieves first second = all (λ party. sameLines (answersOf party first) (answersOf party second)) (upTo (thieves + 1))
 
@@ -68,13 +68,16 @@ likeness first second = likenessOf first second (readFile first) (readFile secon
 
 -- ── What alike means ────────────────────────────────────────────────────────────────────────────────────────────────────────
 
--- Two files that are read are alike exactly when their sizes are equal and every party's answers are. Proved in `proofs/AlikeExactly.antt`.
+-- two files with these sizes have equal sizes, and give every party equal answers
 pub record Equals (first second : List ℕ) (s t : Sizes) : Type 0 where
   pub sizes : s ≡ t
   pub answers : (party : ℕ) → party < s .thieves + 1 → answersOf party first ≡ answersOf party second
 
+-- Two files that are read are alike exactly when that is so, and otherwise they are not. Proved in `proofs/AlikeExactly.antt`.
 abbrev pub AlikeExactly : Type 0
 AlikeExactly =
     (first second : List ℕ) (s t : Sizes) (n m : ℕ)
     → readFile first ≡ Accepted s n → readFile second ≡ Accepted t m
-    → (likeness first second ≡ Alike → Equals first second s t) × (Equals first second s t → likeness first second ≡ Alike)
+    → (likeness first second ≡ Alike → Equals first second s t)
+    × (Equals first second s t → likeness first second ≡ Alike)
+    × ((Equals first second s t → ⊥) → likeness first second ≡ NotAlike)

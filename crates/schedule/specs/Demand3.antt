@@ -28,7 +28,7 @@ plainAnswers s es = map (λ v. map lineOf (answersTo (v .call))) (answering (eve
 pub record TraceLinearizes (s : Sizes) (es : List Entry) (entries : ℕ) (trace : List ℕ) : Type 0 where
   -- each answer in the bytes, number and value, is the plain queue's one answer to that call
   pub answers : map (λ l. l ∷ []) (answersIn entries trace) ≡ plainAnswers s es
-  -- and of the entries that were obeyed all of demand 3 is true, so that no task is lost or given twice
+  -- and of the list of entries all of demand 3 is true, so that no task is lost or given twice
   pub linearizable : Linearizable s es
 
 -- a file that was run, with enough margin

@@ -13,6 +13,7 @@ use Rattle.schedule.specs.Types.{Accepted, Allowed, Meaning, Reading, Re
 use Rattle.schedule.specs.Types.{BeginPut, BeginSteal, BeginTake, ClientStore, Drain, Entry, ThiefStep, WorkerStep}
 use Rattle.schedule.specs.declared.reader.Reading.the-variants as reading
 use Rattle.schedule.specs.declared.writer.Writing.the-variants as writing
+use Rattle.schedule.specs.Alike.{sameSizes}
 use Rattle.schedule.specs.Number.{littleEndian}
 use Rattle.schedule.specs.Format.{sizeNumbers, wordBytes, wordsIn}
 use Rattle.schedule.specs.Entries.{entryAt}
@@ -41,20 +42,11 @@ equal [] (y ∷ m) = false
 equal (x ∷ l) [] = false
 equal (x ∷ l) (y ∷ m) = eqb x y && equal l m
 
-abbrev pub equalSizes : Sizes → Sizes → Bool
-equalSizes s t =
-    eqb (s .slots) (t .slots)
-    && eqb (s .buffer) (t .buffer)
-    && eqb (s .spacing) (t .spacing)
-    && eqb (s .margin) (t .margin)
-    && eqb (s .thieves) (t .thieves)
-    && eqb (s .start) (t .start)
-
 abbrev pub refusedBy : Refusal → ℕ → ℕ → Bool
 refusedBy r number place = eqb (numberOf r) number && eqb (placeOf r) place
 
 abbrev pub isRead : Sizes → ℕ → Reading → Bool
-isRead s n (Accepted t entries) = equalSizes s t && eqb n entries
+isRead s n (Accepted t entries) = sameSizes s t && eqb n entries
 isRead s n (reading.Refused r) = false
 
 abbrev pub isNotRead : ℕ → ℕ → Reading → Bool

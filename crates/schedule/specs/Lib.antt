@@ -1,5 +1,5 @@
--- What the promises about schedule files say. Names in quotation marks are places of the scope paper, 01. The files stand in reading order; `readFile` in `Reader` and
--- `writeFile` in `Writer` are what `read` and `write` answer, `layout` in `Format` is what both go by.
+-- What the promises about schedule files say. Names in quotation marks are places of the scope paper, 01. The files stand in reading order; `readFile` in `Reader`,
+-- `writeFile` in `Writer`, `runFile` in `Run` and `likeness` in `Alike` are what `read`, `write`, `run` and `alike` answer, `bufferAfter` and `traceAfter` what lent memory holds afterwards. `layout` in `Format` is what reader and writer go by.
 --
 -- numbers in bytes                      Number
 -- refusals, their numbers and places    Refusal, of `terms`

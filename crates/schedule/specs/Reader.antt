@@ -27,7 +27,7 @@ readingOf file (Failed r) = reading.Refused r
 abbrev pub readFile : List ℕ → Reading
 readFile file = readingOf file (first (readingChecks file))
 
--- the refusal that a reading is; an accepted file has none, and SHORT stands here in its place
+-- the refusal that a reading is, for a run or a comparison to hand on; an accepted file has none, and SHORT stands here in its place
 abbrev pub refusalOf : Reading → Refusal
 refusalOf (Accepted s entries) = Short
 refusalOf (reading.Refused r) = r

@@ -1,15 +1,17 @@
 -- A file run, and one step of a run. Renders "Order" and "Trace", of "The numbers", as far as they are about a run, 8 ROOM, and the totals of "The program's lines".
+use mathlib.Core.Path.{_≡_}
 use mathlib.Core.Bool.{cond}
-use mathlib.Core.List.{List, [], _∷_}
+use mathlib.Core.List.{List, [], _∷_, map}
 use Prim.Native.Nat.{ℕ}
 use lib.Dec.{ltb}
 use lib.ListN.{length}
 use Rattle.terms.specs.declared.kinds.Meaning.the-variants as meaning
-use Rattle.terms.specs.Tally.{counted}
+use Rattle.terms.specs.Kinds.{kindOf, operandOf}
+use Rattle.terms.specs.Tally.{counted, noneCounted}
 use Rattle.machine.specs.Lists.{gather, upTo}
 use Rattle.machine.specs.Machine.{fresh}
-use Rattle.machine.specs.Obey.{obey, outcomesOf}
-use Rattle.schedule.specs.Types.{Accepted, Allowed, Entry, Machine, Meaning, Outcome, Ran, Reading, Room, Running, Stepped, Tally}
+use Rattle.machine.specs.Obey.{machineAfter, obey, outcomesOf}
+use Rattle.schedule.specs.Types.{Accepted, Allowed, Entry, Machine, Meaning, Outcome, Ran, Reading, Room, Running, Sizes, Stepped, Tally}
 use Rattle.schedule.specs.declared.reader.Reading.the-variants as reading
 use Rattle.schedule.specs.declared.runner.Running.the-variants as running
 use Rattle.schedule.specs.Entries.{entryAt}
@@ -24,6 +26,15 @@ use Rattle.schedule.specs.Trace.{traceLength, traceOf}
 -- an entry obeyed, and the tally brought up to date by its outcome
 abbrev pub stepped : Machine → Tally → Entry → Stepped
 stepped m t e = record { machine = obey m e .machine; tally = counted t (obey m e .outcome); outcome = obey m e .outcome }
+
+-- the outcomes of one step after the other, and the machine and the totals after the last
+abbrev pub outcomesOfSteps : Machine → Tally → List Entry → List Outcome
+outcomesOfSteps m t [] = []
+outcomesOfSteps m t (e ∷ es) = stepped m t e .outcome ∷ outcomesOfSteps (stepped m t e .machine) (stepped m t e .tally) es
+
+abbrev pub afterSteps : Machine → Tally → List Entry → Machine × Tally
+afterSteps m t [] = (m, t)
+afterSteps m t (e ∷ es) = afterSteps (stepped m t e .machine) (stepped m t e .tally) es
 
 -- ── What a file has the machine do ──────────────────────────────────────────────────────────────────────────────────────────
 
@@ -62,3 +73,18 @@ traceIf new trace (running.Refused r) = trace
 -- what the trace buffer holds afterwards: the trace and, beyond it, what it held; if refused, all that it held
 abbrev pub traceAfter : List ℕ → List ℕ → List ℕ
 traceAfter file trace = traceIf (traceOf (outcomesIn file)) trace (runFile file (length trace))
+
+-- ── What a run is ───────────────────────────────────────────────────────────────────────────────────────────────────────────
+
+-- Whoever steps from the fresh machine, with nothing counted, sees the outcomes and the totals of the run. Proved in `proofs/Schedules.antt`, as is what follows.
+abbrev pub RunBySteps : Type 0
+RunBySteps =
+    (s : Sizes) (es : List Entry)
+    → (outcomesOfSteps (fresh s) noneCounted es ≡ outcomesOf (fresh s) es)
+    × (afterSteps (fresh s) noneCounted es ≡ (machineAfter (fresh s) es, tallyOf (outcomesOf (fresh s) es)))
+
+-- the entries of an accepted file are all of it: their kinds and operands are its arrays
+abbrev pub ScheduleOfFile : Type 0
+ScheduleOfFile =
+    (file : List ℕ) (s : Sizes) (n : ℕ) → readFile file ≡ Accepted s n
+    → (map kindOf (scheduleIn file) ≡ kindsIn n file) × (map operandOf (scheduleIn file) ≡ operandsIn n file)

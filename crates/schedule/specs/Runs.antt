@@ -1,18 +1,22 @@
--- Runs and alike schedules, as one table over the definitions: the example of "The program's lines", the last line of "Rehearsals" with its trace, M2 and M3 as traces, every outcome in the bytes of a trace, rooms one byte short, refusals in their order, and schedules that are
+-- Runs and alike schedules, as one table over the definitions: the example of "The program's lines", the last line of "Rehearsals" with its trace, M2 and M3 as traces, every outcome in the bytes of a trace, rooms one byte short, refusals in their order, each outcome counted, also at the largest total, and schedules that are
 -- alike or differ in one thing. `proofs/Runs.antt` proves one fact: every row holds.
 use mathlib.Core.Bool.{Bool, true, false, _&&_}
 use mathlib.Core.List.{List, [], _∷_, _++_, map}
 use Prim.Native.Nat.{ℕ}
 use lib.Dec.{eqb}
 use lib.ListN.{replicate}
-use Rattle.schedule.specs.Types.{Alike, FirstRefused, Likeness, NotAlike, Ran, Running, SecondRefused, Sizes}
+use Rattle.terms.specs.declared.outcome.Outcome.the-variants.{Moved, Place, Early, Wait, Stored, Task, Empty, Abort, Full, End}
+use Rattle.terms.specs.Outcome.{numberOf}
+use Rattle.terms.specs.Tally.{counted}
+use Rattle.machine.specs.Machine.{fresh}
+use Rattle.schedule.specs.Types.{Alike, FirstRefused, Likeness, NotAlike, Outcome, Ran, Running, SecondRefused, Sizes, Tally}
 use Rattle.schedule.specs.Types.{BeginPut, BeginSteal, BeginTake, ClientStore, Drain, Entry, ThiefStep, WorkerStep}
 use Rattle.schedule.specs.declared.runner.Running.the-variants as running
 use Rattle.schedule.specs.Alike.{likeness}
-use Rattle.schedule.specs.Edges.{before, equal, exampleFile, refusedBy, sized}
+use Rattle.schedule.specs.Edges.{before, equal, exampleFile, fileWith, refusedBy, sized}
 use Rattle.terms.specs.Kinds.{kindOf, operandOf}
 use Rattle.schedule.specs.Format.{fileOf}
-use Rattle.schedule.specs.Run.{runFile, traceAfter}
+use Rattle.schedule.specs.Run.{afterSteps, outcomesOfSteps, runFile, traceAfter}
 
 -- ── Rows ────────────────────────────────────────────────────────────────────────────────────────────────────────────────────
 
@@ -21,6 +25,10 @@ pub data Row : Type 0 where
   runs : (file : List ℕ) (room : ℕ) (after : List ℕ) (given aborts waits : ℕ) → Row
   -- a file that is not run, with number and place; the buffer, of so many bytes, holds what it held
   declines : (file : List ℕ) (room number place : ℕ) → Row
+  -- steps from the fresh machine and these totals: the outcomes' numbers, and the totals afterwards
+  steps : Sizes → Tally → List Entry → (numbers : List ℕ) → Tally → Row
+  -- totals with one outcome more
+  counts : Tally → Outcome → Tally → Row
   -- two files that are alike, and two that are not
   like : (first second : List ℕ) → Row
   unlike : (first second : List ℕ) → Row
@@ -28,8 +36,14 @@ pub data Row : Type 0 where
   refusesFirst : (first second : List ℕ) (number place : ℕ) → Row
   refusesSecond : (first second : List ℕ) (number place : ℕ) → Row
 
+abbrev pub equalTotals : Tally → Tally → Bool
+equalTotals t u = eqb (t .given) (u .given) && eqb (t .aborts) (u .aborts) && eqb (t .waits) (u .waits)
+
+abbrev pub totals : ℕ → ℕ → ℕ → Tally
+totals given aborts waits = record { given = given; aborts = aborts; waits = waits }
+
 abbrev pub isRun : ℕ → ℕ → ℕ → Running → Bool
-isRun given aborts waits (Ran t) = eqb (t .given) given && eqb (t .aborts) aborts && eqb (t .waits) waits
+isRun given aborts waits (Ran t) = equalTotals t (totals given aborts waits)
 isRun given aborts waits (running.Refused r) = false
 
 abbrev pub isNotRun : ℕ → ℕ → Running → Bool
@@ -64,6 +78,9 @@ abbrev pub holds : Row → Bool
 holds (runs file room after given aborts waits) =
     isRun given aborts waits (runFile file room) && equal (traceAfter file (before room)) after
 holds (declines file room number place) = isNotRun number place (runFile file room) && equal (traceAfter file (before room)) (before room)
+holds (steps s t es numbers after) =
+    equal (map numberOf (outcomesOfSteps (fresh s) t es)) numbers && equalTotals (afterSteps (fresh s) t es .1) after
+holds (counts t o after) = equalTotals (counted t o) after
 holds (like first second) = isLike (likeness first second)
 holds (unlike first second) = isUnlike (likeness first second)
 holds (refusesFirst first second number place) = isFirstRefused number place (likeness first second)
@@ -147,10 +164,36 @@ ranRows =
     ((38 ∷ 0 ∷ 0 ∷ 0 ∷ []) ++ manyNumbers ++ noTask 20 ++ (120 ∷ 86 ∷ 52 ∷ 18 ∷ []) ++ noTask 17) 1 1 5
     ∷ runs (file (sized 2 2 0 2 1 0) (put 1 ++ drains ++ (BeginPut 2 ∷ WorkerStep ∷ []))) 44
     ((8 ∷ 0 ∷ 0 ∷ 0 ∷ []) ++ (0 ∷ 0 ∷ 0 ∷ 16 ∷ 0 ∷ 0 ∷ 0 ∷ 20 ∷ []) ++ noTask 8) 0 0 0
+    ∷ runs (file (sized 4 1 0 1 2 0) (BeginSteal 0 ∷ BeginSteal 1 ∷ BeginSteal 0 ∷ [])) 19 ((3 ∷ 0 ∷ 0 ∷ 0 ∷ []) ++ (0 ∷ 0 ∷ 5 ∷ []) ++ noTask 3) 0 0 0
+    ∷ runs (file (sized 4 1 0 1 1 0) (replicate 256 Drain)) 1284 ((0 ∷ 1 ∷ 0 ∷ 0 ∷ []) ++ replicate 256 7 ++ noTask 256) 0 0 256
     ∷ declines [] 0 2 0
     ∷ declines (file (sized 4 65 0 1 1 0) []) 0 1 1
     ∷ declines (file (sized 4 1 0 1 1 0) (ThiefStep 0 ∷ ThiefStep 1 ∷ [])) 0 4 1
     ∷ declines (exampleFile ++ (0 ∷ [])) 100 2 0
+    ∷ declines (fileWith (sized 4 1 0 1 1 0) (7 ∷ []) (0 ∷ [])) 0 3 0
+    ∷ declines (fileWith (sized 4 1 0 1 1 0) (7 ∷ []) (0 ∷ [])) 9 3 0
+    ∷ []
+
+-- steps with totals that are not none, also at their largest, and each outcome counted
+abbrev pub countedRows : List Row
+countedRows =
+    steps (sized 4 1 0 1 1 0) (totals 5 6 8) (Drain ∷ steal 0) (7 ∷ 0 ∷ 0 ∷ 0 ∷ 0 ∷ 0 ∷ 0 ∷ 19 ∷ []) (totals 5 7 9)
+    ∷ steps (sized 4 2 0 2 1 0) (totals 4294967294 6 4294967295) (put 7 ++ drains ++ take ++ (WorkerStep ∷ Drain ∷ Drain ∷ []))
+    (0 ∷ 0 ∷ 0 ∷ 16 ∷ 0 ∷ 0 ∷ 0 ∷ 0 ∷ 0 ∷ 17 ∷ 5 ∷ 0 ∷ 7 ∷ []) (totals 4294967295 6 4294967295)
+    ∷ counts (totals 5 6 8) (Task 3) (totals 6 6 8)
+    ∷ counts (totals 5 6 8) Abort (totals 5 7 8)
+    ∷ counts (totals 5 6 8) Wait (totals 5 6 9)
+    ∷ counts (totals 5 6 8) Moved (totals 5 6 8)
+    ∷ counts (totals 5 6 8) Place (totals 5 6 8)
+    ∷ counts (totals 5 6 8) Early (totals 5 6 8)
+    ∷ counts (totals 5 6 8) Stored (totals 5 6 8)
+    ∷ counts (totals 5 6 8) Empty (totals 5 6 8)
+    ∷ counts (totals 5 6 8) Full (totals 5 6 8)
+    ∷ counts (totals 5 6 8) End (totals 5 6 8)
+    ∷ counts (totals 4294967294 4294967294 4294967294) (Task 3) (totals 4294967295 4294967294 4294967294)
+    ∷ counts (totals 4294967295 4294967295 4294967295) (Task 3) (totals 4294967295 4294967295 4294967295)
+    ∷ counts (totals 4294967295 4294967295 4294967295) Abort (totals 4294967295 4294967295 4294967295)
+    ∷ counts (totals 4294967295 4294967295 4294967295) Wait (totals 4294967295 4294967295 4294967295)
     ∷ []
 
 -- a schedule under six sizes, and the answers in it: one put, one take, an ABORT for a thief
@@ -162,6 +205,13 @@ one = put 7 ++ drains ++ take
 
 abbrev pub three : ℕ → List Entry
 three x = put x ++ drains ++ put 2 ++ drains ++ put 3 ++ drains
+
+-- a put that ends with its first step, and a take that finds nothing
+abbrev pub atTheEnd : List Entry
+atTheEnd = BeginPut 1 ∷ WorkerStep ∷ []
+
+abbrev pub takeOfNothing : List Entry
+takeOfNothing = BeginTake ∷ WorkerStep ∷ WorkerStep ∷ Drain ∷ WorkerStep ∷ WorkerStep ∷ WorkerStep ∷ Drain ∷ WorkerStep ∷ []
 
 abbrev pub likenessRows : List Row
 likenessRows =
@@ -180,6 +230,11 @@ likenessRows =
     ∷ unlike (plain one) (plain (put 7))
     ∷ unlike (plain (put 7)) (plain one)
     ∷ unlike (plain (put 7)) (plain [])
+    ∷ unlike (plain one) (plain (put 16777223 ++ drains ++ take))
+    -- END, FULL or EMPTY once more
+    ∷ unlike (file (sized 4 1 0 1 1 2147483647) atTheEnd) (file (sized 4 1 0 1 1 2147483647) (atTheEnd ++ atTheEnd))
+    ∷ unlike (file (sized 2 2 0 2 1 0) (put 1)) (file (sized 2 2 0 2 1 0) (put 1 ++ atTheEnd))
+    ∷ unlike (file (sized 4 1 1 1 1 0) []) (file (sized 4 1 1 1 1 0) takeOfNothing)
     -- a thief's answers: another thief, another value, one more or less; the worker's are the same
     ∷ unlike (plain (steal 0)) (plain (steal 1))
     ∷ unlike (plain (three 1 ++ steal 0)) (plain (three 9 ++ steal 0))
@@ -205,4 +260,4 @@ likenessRows =
     ∷ []
 
 abbrev pub table : List Row
-table = ranRows ++ likenessRows
+table = ranRows ++ countedRows ++ likenessRows

@@ -1,4 +1,5 @@
--- The trace of a run. Renders "Trace", of "The numbers". Like a file it has one description, `traceLayout`: a trace is written by it, and what stands in a trace is read by it.
+-- The trace of a run. Renders "Trace", of "The numbers". `traceLayout` gives each number of a trace its width; `traceOf` encodes by it, and `lineIn` decodes by it.
+use mathlib.Core.Path.{_≡_}
 use mathlib.Core.List.{List, _∷_, _++_, map}
 use Prim.Native.Nat.{ℕ, _+_, _*_}
 use lib.ListN.{length, getD, replicate}
@@ -35,3 +36,7 @@ lineIn entries trace at =
       number = getD (decode (traceLayout entries) trace) (1 + at) 0;
       value = getD (decode (traceLayout entries) trace) (1 + entries + at) 0;
     }
+
+-- The length that 01 gives as a number is the layout's. Proved in `proofs/Laws/Trace.antt`.
+abbrev pub TraceLength : Type 0
+TraceLength = (os : List Outcome) → length (traceOf os) ≡ traceLength (length os)

@@ -20,13 +20,13 @@ const LONGEST_TRACE: usize = 20484;
 
 // What comparing two files comes to.
 pub enum Likeness {
-    // The sizes are equal, and the worker and each thief get the same answers in the same order.
+    // Equal sizes, and equal answers for every party.
     Alike,
-    // They are not, or do not.
+    // Sizes differ, or somebody gets other answers.
     NotAlike,
-    // The first file is refused; the second was not looked at.
+    // The first file is refused, whatever the second is.
     FirstRefused(Refusal),
-    // The second file is refused.
+    // The second file is refused, and the first is not.
     SecondRefused(Refusal),
 }
 
@@ -129,7 +129,7 @@ fn same_for(
     there == others
 }
 
-// Whether the worker and each thief get the same answers in two runs.
+// Whether no party's answers differ between two runs, the worker's and every thief's.
 fn same_for_all(
     thieves: u32,
     entries: usize,
@@ -153,7 +153,7 @@ fn same_for_all(
     true
 }
 
-// Whether the worker and each thief get the same answers from two files that were read, with the same sizes. The traces are its own.
+// Whether no party's answers differ between two files that were read, with the same sizes. The traces are its own.
 fn same_runs(sizes: Sizes, entries: usize, file: &[u8], others: usize, other: &[u8]) -> bool
     requires { ⌜ (readFile (now file) ≡ Accepted sizes entries) × (readFile (now other) ≡ Accepted sizes others) ⌝ }
     ensures { λ r. ⌜ r ≡ sameAnswers (sizes .thieves) (now (file .entry)) (now (other .entry)) ⌝ }

@@ -41,9 +41,9 @@ pub struct Stepped {
 
 // What running a file comes to.
 pub enum Running {
-    // Every entry was obeyed, and the trace stands at the front of the buffer.
+    // Every entry has its outcome, and the trace stands at the front of the buffer.
     Ran(Tally),
-    // The machine was not started, and not a byte of the buffer was touched.
+    // No entry was obeyed, and not a byte of the buffer was touched.
     Refused(Refusal),
 }
 

@@ -16,7 +16,7 @@ use Rattle.machine.specs.Lists.{all, gather, upFrom, upTo}
 use Rattle.schedule.specs.Types.{BeginPut, BeginSteal, BeginTake, ClientStore, Drain, Entry, Outcome, Sizes, ThiefStep, WorkerStep, Accepted}
 use Rattle.schedule.specs.Format.{kindsIn, operandsIn, entriesIn, sizesIn}
 use Rattle.schedule.specs.Trace.{Line, lineIn, lineOf, traceOf}
-use Rattle.schedule.specs.Alike.{answersOf, answersTo, partyOf, sameAnswers, sameLine, sameLines, sameSizes}
+use Rattle.schedule.specs.Alike.{answersOf, answersFor, partyNumber, sameAnswers, sameLine, sameLines, sameSizes}
 use Rattle.schedule.specs.Comparison.{answered, linesFrom, partyIn, sameForAll}
 use Rattle.schedule.specs.Number.{allBelow, overwritten}
 use Rattle.schedule.specs.Reader.{readFile}
@@ -31,7 +31,7 @@ use Rattle.schedule.proofs.Laws.Trace.{lineIn-written}
 -- ── The comparison in bytes ─────────────────────────────────────────────────────────────────────────────────────────────────
 
 -- whose entry it is, by its kind and its operand
-party-of-entry : (e : Entry) → partyIn (kindOf e) (operandOf e) ≡ partyOf e
+party-of-entry : (e : Entry) → partyIn (kindOf e) (operandOf e) ≡ partyNumber e
 party-of-entry Drain = refl
 party-of-entry ClientStore = refl
 party-of-entry (BeginPut x) = refl
@@ -53,7 +53,7 @@ module _ (party n : ℕ) (file trace : List ℕ) where
   abbrev answer-at : ℕ → List Line
   answer-at i = cond (answered party n file trace i) (lineIn n trace i ∷ []) []
 
-  answered-told : (at : ℕ) (e : Entry) (o : Outcome) → Told at e o → answered party n file trace at ≡ (isAnswer o && eqb (partyOf e) party)
+  answered-told : (at : ℕ) (e : Entry) (o : Outcome) → Told at e o → answered party n file trace at ≡ (isAnswer o && eqb (partyNumber e) party)
   answered-told at e o told =
       (λ i. leb 16 (told .2 i .number) && eqb (partyIn (told .0 i) (told .1 i)) party)
       ∙ ap (λ k. isAnswer o && eqb k party) (party-of-entry e)
@@ -61,20 +61,20 @@ module _ (party n : ℕ) (file trace : List ℕ) where
   -- from a place on, where the entries and the outcomes from there on are told
   answers-from : (es : List Entry) (os : List Outcome) (at : ℕ) → length es ≡ length os
       → ((i k : ℕ) → k ≡ at + i → i < length es → Told k (getD es i Drain) (getD os i Moved))
-      → gather answer-at (upFrom at (length es)) ≡ answersTo party es os
+      → gather answer-at (upFrom at (length es)) ≡ answersFor party es os
   answers-from [] os at long each = refl
   answers-from (e ∷ es) [] at long each = absurd (suc-ne-zero (length es) long)
   answers-from (e ∷ es) (o ∷ os) at long each =
       let told = each 0 at (omega arith) (omega arith) in
       let rest = answers-from es os (suc at) (suc-inj long) (λ i k p h. each (suc i) k (omega arith) (omega arith)) in
       (λ i. cond (answered-told at e o told i) (told .2 i ∷ []) [] ++ rest i)
-      ∙ one-before (isAnswer o && eqb (partyOf e) party) (lineOf o) (answersTo party es os)
+      ∙ one-before (isAnswer o && eqb (partyNumber e) party) (lineOf o) (answersFor party es os)
 
 -- the lines that are compared are the party's answers, where file and trace tell the entries and the outcomes
 pub lines-of-run : (party n : ℕ) (file : List ℕ) (es : List Entry) (os : List Outcome) (trace : List ℕ) → length es ≡ n → length os ≡ n
     → ((at : ℕ) → at < n
     → (getD (kindsIn n file) at 0 ≡ kindOf (getD es at Drain)) × (getD (operandsIn n file) at 0 ≡ operandOf (getD es at Drain)) × (lineIn n trace at ≡ lineOf (getD os at Moved)))
-    → linesFrom party n file trace 0 ≡ answersTo party es os
+    → linesFrom party n file trace 0 ≡ answersFor party es os
 lines-of-run party n file es os trace long other-long each =
     let whole : n - 0 ≡ length es = omega arith in
     ap (λ k. gather (answer-at party n file trace) (upFrom 0 k)) whole

@@ -13,7 +13,7 @@ use Rattle.machine.specs.Lists.{gather, upFrom}
 use Rattle.schedule.specs.Types.{Outcome}
 use Rattle.schedule.specs.Number.{allBelow, littleEndian, ofBytes, overwritten}
 use Rattle.schedule.specs.Format.{decode, encode, wordBytes}
-use Rattle.schedule.specs.Trace.{lineIn, lineOf, traceLayout, traceOf}
+use Rattle.schedule.specs.Trace.{TraceLength, lineIn, lineOf, traceLayout, traceOf}
 use Rattle.schedule.specs.Demand3.{answerIn, answersIn}
 use Rattle.schedule.proofs.Laws.Number.{length-littleEndian}
 use Rattle.schedule.proofs.Laws.Format.{decode-append, decode-encode, encode-append, encode-bytes, fitting, fitting-append, fitting-replicate}
@@ -101,9 +101,9 @@ module _ (os : List Outcome) where
       ∙ ap (λ l. l ++ wordBytes values) (encode-bytes numbers (numbers-are-bytes os)))
       ∙ sym (append-assoc (littleEndian 4 n) numbers (wordBytes values))
 
-  pub length-traceOf : length (traceOf os) ≡ 4 + 5 * length os
-  length-traceOf =
-      ap length traceOf-parts ∙ omega (arith, length-append (map numberOf os) (wordBytes (map valueOf os)), length-map os numberOf, length-values os)
+pub length-traceOf : TraceLength
+length-traceOf os =
+    ap length (traceOf-parts os) ∙ omega (arith, length-append (map numberOf os) (wordBytes (map valueOf os)), length-map os numberOf, length-values os)
 
 -- with all outcomes, and then the number of entries in front, the trace
 pub traceSoFar-all : (os : List Outcome) (l : List ℕ) → 4 + 5 * length os ≤ length l
