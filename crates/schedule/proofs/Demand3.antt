@@ -19,8 +19,8 @@ use Rattle.machine.proofs.Linearizable.Watched.{events-outcomes}
 use Rattle.schedule.specs.Types.{Accepted, Entry, Ran, Reading, Running, Sizes, Tally}
 use Rattle.schedule.specs.declared.reader.Reading.the-variants as reading
 use Rattle.schedule.specs.Demand3.{RunLinearizes, TraceLinearizes, answerIn, answersIn, plainAnswers}
-use Rattle.schedule.specs.Format.{entriesIn, sizesIn}
-use Rattle.schedule.specs.Number.{allBelow, overwritten}
+use Rattle.schedule.specs.Format.{allBelow, entriesIn, sizesIn}
+use Rattle.number.specs.Number.{overwritten}
 use Rattle.schedule.specs.Reader.{readFile}
 use Rattle.schedule.specs.Run.{outcomesIn, runFile, runningOf, scheduleIn, traceAfter, traceIf}
 use Rattle.schedule.specs.Trace.{Line, lineOf, traceOf}

@@ -1,6 +1,5 @@
-pub mod Number
+pub mod Bytes
 pub mod Format
-pub mod Overwritten
 pub mod Words
 pub mod Check
 pub mod Entries

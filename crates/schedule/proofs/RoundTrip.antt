@@ -10,10 +10,9 @@ use lib.Seq.{drop-at, drop-drop, take-at}
 use borrow.Author.Tests.{lt-ltb}
 use Rattle.terms.proofs.Laws.Sizes.{sizes-bounds}
 use Rattle.schedule.specs.Types.{Accepted, Sizes, Written}
-use Rattle.schedule.specs.Number.{allBelow}
 use Rattle.schedule.specs.Check.{checkRanges}
 use Rattle.schedule.specs.Entries.{checkEntries, entryAt}
-use Rattle.schedule.specs.Format.{decode, encode, entriesIn, fileOf, kindsIn, layout, operandsIn, sizeNumbers, sizesIn, wordsIn}
+use Rattle.schedule.specs.Format.{allBelow, decode, encode, entriesIn, fileOf, kindsIn, layout, operandsIn, sizeNumbers, sizesIn, wordsIn}
 use Rattle.schedule.specs.Reader.{kindPart, operandPart, partOf, startOf}
 use Rattle.schedule.specs.RoundTrip.{EntriesAsRead, EntryOfFile, PartsOfAccepted, ReadBack, ReadThenWritten, WrittenBack, WrittenThenRead}
 use Rattle.schedule.specs.Writer.{writingOf, bufferAfter, bufferIf}

@@ -14,7 +14,7 @@ use Rattle.schedule.specs.Types.{BeginPut, BeginSteal, BeginTake, Client
 use Rattle.schedule.specs.declared.reader.Reading.the-variants as reading
 use Rattle.schedule.specs.declared.writer.Writing.the-variants as writing
 use Rattle.schedule.specs.Alike.{sameSizes}
-use Rattle.schedule.specs.Number.{littleEndian}
+use Rattle.number.specs.Number.{littleEndian}
 use Rattle.schedule.specs.Format.{sizeNumbers, wordBytes, wordsIn}
 use Rattle.schedule.specs.Entries.{entryAt}
 use Rattle.schedule.specs.Reader.{kindPart, kindStart, operandPart, operandStart, readFile}

@@ -1,10 +1,13 @@
 -- The layout of a schedule file. Renders the first paragraph of "The schedule file". `layout` is the one description of the format: the writer encodes by it, and the reader decodes by it. The lengths that 01 gives as
 -- numbers stand as numbers, `fileLength` here and 28 in `Reader`; `RoundTrip` ties them to the layout.
+use mathlib.Core.Bool.{Bool}
 use mathlib.Core.List.{List, [], _∷_, _++_}
 use Prim.Native.Nat.{ℕ, _+_, _*_, _/_}
+use lib.Dec.{ltb}
 use lib.ListN.{length, drop, getD, replicate, take}
+use Rattle.machine.specs.Lists.{all}
 use Rattle.schedule.specs.Types.{Sizes}
-use Rattle.schedule.specs.Number.{littleEndian, ofBytes}
+use Rattle.number.specs.Number.{littleEndian, ofBytes}
 
 -- How many bytes each number of a file has, in the file's order: seven sizes of four, then a kind of one for each entry, then an
 -- operand of four for each entry.
@@ -77,3 +80,7 @@ wordBytes numbers = encode (replicate (length numbers) 4) numbers
 -- as many numbers of four bytes as some bytes hold
 abbrev pub wordsIn : List ℕ → List ℕ
 wordsIn bytes = decode (replicate (length bytes / 4) 4) bytes
+
+-- every number of a list is below a bound, as every byte is below 256
+abbrev pub allBelow : ℕ → List ℕ → Bool
+allBelow bound l = all (λ n. ltb n bound) l

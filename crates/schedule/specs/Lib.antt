@@ -1,7 +1,7 @@
 -- What the promises about schedule files say. Names in quotation marks are places of the scope paper, 01. The files stand in reading order; `readFile` in `Reader`,
 -- `writeFile` in `Writer`, `runFile` in `Run` and `likeness` in `Alike` are what `read`, `write`, `run` and `alike` answer, `bufferAfter` and `traceAfter` what lent memory holds afterwards. `layout` in `Format` is what reader and writer go by.
 --
--- numbers in bytes                      Number
+-- numbers in bytes                      Number, of `number`
 -- refusals, their numbers and places    Refusal, of `terms`
 -- checks in their order; SIZE           Check
 -- the layout of a file                  Format
@@ -20,7 +20,6 @@
 -- files at their edges, as a table      Edges
 -- runs and alike schedules, as a table  Runs
 pub mod Types
-pub mod Number
 pub mod Check
 pub mod Format
 pub mod Entries

@@ -7,9 +7,8 @@ use Prim.Native.Nat.{ℕ, _+_, _≤_, _<_}
 use lib.ListN.{length, drop, getD, take}
 use Rattle.terms.specs.Kinds.{entryOf, kindOf, operandOf}
 use Rattle.schedule.specs.Types.{Accepted, Allowed, Entry, Sizes, Written}
-use Rattle.schedule.specs.Number.{allBelow}
 use Rattle.schedule.specs.Entries.{entryAt}
-use Rattle.schedule.specs.Format.{fileOf, kindsIn, operandsIn, wordsIn}
+use Rattle.schedule.specs.Format.{allBelow, fileOf, kindsIn, operandsIn, wordsIn}
 use Rattle.schedule.specs.Reader.{kindPart, kindStart, operandPart, operandStart, readFile}
 use Rattle.schedule.specs.Writer.{bufferAfter, writeFile}
 

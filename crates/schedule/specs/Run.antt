@@ -16,7 +16,7 @@ use Rattle.schedule.specs.declared.reader.Reading.the-variants as readin
 use Rattle.schedule.specs.declared.runner.Running.the-variants as running
 use Rattle.schedule.specs.Entries.{entryAt}
 use Rattle.schedule.specs.Format.{entriesIn, kindsIn, operandsIn, sizesIn}
-use Rattle.schedule.specs.Number.{overwritten}
+use Rattle.number.specs.Number.{overwritten}
 use Rattle.schedule.specs.Reader.{readFile}
 use Rattle.schedule.specs.Totals.{tallyOf}
 use Rattle.schedule.specs.Trace.{traceLength, traceOf}

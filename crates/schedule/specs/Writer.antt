@@ -9,7 +9,7 @@ use Rattle.schedule.specs.declared.writer.Writing.the-variants as writin
 use Rattle.schedule.specs.Check.{checkRanges, failIf, first}
 use Rattle.schedule.specs.Entries.{checkEntries}
 use Rattle.schedule.specs.Format.{fileLength, fileOf}
-use Rattle.schedule.specs.Number.{overwritten}
+use Rattle.number.specs.Number.{overwritten}
 
 -- the checks of what is to be written into a buffer of so many bytes, in their order
 abbrev pub writingChecks : Sizes → List ℕ → List ℕ → ℕ → List Check

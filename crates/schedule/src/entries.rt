@@ -4,7 +4,7 @@ ghost use lib.ListN.{length};
 ghost use Rattle.schedule.specs.Entries.{checkEntries, entryAt};
 ghost use Rattle.schedule.specs.Format.{wordsIn};
 use crate::check::Check;
-use crate::number::word_at;
+use number::word_at;
 use terms::Meaning;
 use terms::Refusal;
 use terms::entry_of;

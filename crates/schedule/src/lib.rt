@@ -16,15 +16,15 @@
 // No function here asks anything of its caller. Reading order:
 //
 // - `check`: what a check comes to, and the check of the sizes;
-// - `number`: numbers in bytes;
+// - `layout`: the lengths of a file's parts;
 // - `entries`: one entry, and the first faulty one;
 // - `reader`, `writer`: a file as a whole;
 // - `runner`: one step, and a run with its trace;
 // - `likeness`: whether two schedules are alike.
 mod check;
 mod entries;
+mod layout;
 mod likeness;
-mod number;
 mod reader;
 mod runner;
 mod writer;

@@ -6,12 +6,12 @@ ghost use Rattle.schedule.specs.Comparison.{answered, firstFrom, partyIn
 ghost use Rattle.schedule.specs.Reader.{readFile};
 ghost use Rattle.schedule.specs.Trace.{lineIn};
 ghost use Rattle.schedule.specs.Types.{Accepted};
-use crate::number::SIZES_BYTES;
-use crate::number::word_at;
+use crate::layout::SIZES_BYTES;
 use crate::reader::Reading;
 use crate::reader::read;
 use crate::reader::refusal_of;
 use crate::runner::obey_file;
+use number::word_at;
 use terms::Refusal;
 use terms::Sizes;
 

@@ -6,9 +6,9 @@ ghost use Rattle.schedule.specs.Reader.{behind, kindPart, kindStart, ope
 use crate::check::Check;
 use crate::check::check_ranges;
 use crate::entries::check_part;
-use crate::number::ENTRY_BYTES;
-use crate::number::SIZES_BYTES;
-use crate::number::word_at;
+use crate::layout::ENTRY_BYTES;
+use crate::layout::SIZES_BYTES;
+use number::word_at;
 use terms::Refusal;
 use terms::Sizes;
 

@@ -14,11 +14,11 @@ use Rattle.terms.specs.Kinds.{kindOf, operandOf}
 use Rattle.terms.proofs.Laws.Tests.{both-left, both-right}
 use Rattle.machine.specs.Lists.{all, gather, upFrom, upTo}
 use Rattle.schedule.specs.Types.{BeginPut, BeginSteal, BeginTake, ClientStore, Drain, Entry, Outcome, Sizes, ThiefStep, WorkerStep, Accepted}
-use Rattle.schedule.specs.Format.{kindsIn, operandsIn, entriesIn, sizesIn}
+use Rattle.schedule.specs.Format.{allBelow, entriesIn, kindsIn, operandsIn, sizesIn}
 use Rattle.schedule.specs.Trace.{Line, lineIn, lineOf, traceOf}
 use Rattle.schedule.specs.Alike.{answersOf, answersFor, partyNumber, sameAnswers, sameLine, sameLines, sameSizes}
 use Rattle.schedule.specs.Comparison.{answered, linesFrom, partyIn, sameForAll}
-use Rattle.schedule.specs.Number.{allBelow, overwritten}
+use Rattle.number.specs.Number.{overwritten}
 use Rattle.schedule.specs.Reader.{readFile}
 use Rattle.schedule.specs.Run.{outcomesIn, scheduleIn}
 use Rattle.machine.specs.Machine.{fresh}

@@ -17,7 +17,8 @@ use Rattle.machine.proofs.Laws.Sums.{upTo-suc}
 use Rattle.schedule.specs.Alike.{sameLine, sameLines}
 use Rattle.schedule.specs.Comparison.{answered, firstFrom, linesFrom, partyIn, sameFor}
 use Rattle.schedule.specs.Format.{kindsIn, operandsIn}
-use Rattle.schedule.specs.Number.{ofBytes}
+use Rattle.number.specs.Number.{ofBytes, wordAt}
+use Rattle.number.proofs.Laws.Words.{word-there}
 use Rattle.schedule.specs.Trace.{Line, lineIn}
 use Rattle.schedule.proofs.Laws.Format.{getD-words, kindsIn-part, operandsIn-words}
 use Rattle.schedule.proofs.Laws.Trace.{lineIn-number, lineIn-value}
@@ -29,26 +30,27 @@ use Rattle.schedule.proofs.Laws.Trace.{lineIn-number, lineIn-value}
 pub kindsIn-at : (n : ℕ) (file : List ℕ) (at : ℕ) → at < n → 28 + n ≤ length file → getD (kindsIn n file) at 0 ≡ getD file (28 + at) 0
 kindsIn-at n file at h long = ap (λ l. getD l at 0) (kindsIn-part n file long) ∙ getD-take n (drop 28 file) at 0 h ∙ getD-drop 28 file at 0
 
-pub operandsIn-at : (n : ℕ) (file : List ℕ) (at : ℕ) → at < n → getD (operandsIn n file) at 0 ≡ ofBytes (take 4 (drop (28 + n + 4 * at) file))
-operandsIn-at n file at h =
+pub operandsIn-at : (n : ℕ) (file : List ℕ) (at : ℕ) → at < n → length file ≡ 28 + 5 * n → getD (operandsIn n file) at 0 ≡ wordAt file (28 + n + 4 * at)
+operandsIn-at n file at h whole =
     ap (λ l. getD l at 0) (operandsIn-words n file)
     ∙ getD-words n at (drop (28 + n) file) h
     ∙ ap (λ l. ofBytes (take 4 l)) (drop-drop (4 * at) (28 + n) file)
+    ∙ sym (word-there file (28 + n + 4 * at) (omega arith))
 
 -- whether an entry gets an answer for the party, by the byte of its outcome, its operand, and whose entry that makes it
 module _ (party n : ℕ) (file trace : List ℕ) (whole : length file ≡ 28 + 5 * n) (long : 4 + 5 * n ≤ length trace) (at : ℕ) (there : at < n) where
   answered-bytes : answered party n file trace at
-      ≡ (leb 16 (getD trace (4 + at) 0) && eqb (partyIn (getD file (28 + at) 0) (ofBytes (take 4 (drop (28 + n + 4 * at) file)))) party)
+      ≡ (leb 16 (getD trace (4 + at) 0) && eqb (partyIn (getD file (28 + at) 0) (wordAt file (28 + n + 4 * at))) party)
   answered-bytes =
       λ i. leb 16 (lineIn-number n trace at there i)
-      && eqb (partyIn (kindsIn-at n file at there (omega arith) i) (operandsIn-at n file at there i)) party
+      && eqb (partyIn (kindsIn-at n file at there (omega arith) i) (operandsIn-at n file at there whole i)) party
 
   pub answered-none : getD trace (4 + at) 0 < 16 → answered party n file trace at ≡ false
   answered-none low =
       answered-bytes
-      ∙ ap (λ b. b && eqb (partyIn (getD file (28 + at) 0) (ofBytes (take 4 (drop (28 + n + 4 * at) file)))) party) (lt-leb 16 (getD trace (4 + at) 0) low)
+      ∙ ap (λ b. b && eqb (partyIn (getD file (28 + at) 0) (wordAt file (28 + n + 4 * at))) party) (lt-leb 16 (getD trace (4 + at) 0) low)
 
-  module _ (operand whose : ℕ) (read : operand ≡ ofBytes (take 4 (drop (28 + n + 4 * at) file))) (of : whose ≡ partyIn (getD file (28 + at) 0) operand) (answer : 16 ≤ getD trace (4 + at) 0) where
+  module _ (operand whose : ℕ) (read : operand ≡ wordAt file (28 + n + 4 * at)) (of : whose ≡ partyIn (getD file (28 + at) 0) operand) (answer : 16 ≤ getD trace (4 + at) 0) where
     by-party : answered party n file trace at ≡ eqb whose party
     by-party =
         answered-bytes
@@ -66,22 +68,22 @@ module _ (n : ℕ) (trace : List ℕ) (at : ℕ) (m : ℕ) (other : List ℕ) (t
     (h : at < n) (long : 4 + 5 * n ≤ length trace) (k : there < m) (other-long : 4 + 5 * m ≤ length other) where
   sameLine-bytes : sameLine (lineIn n trace at) (lineIn m other there)
       ≡ (eqb (getD trace (4 + at) 0) (getD other (4 + there) 0)
-      && eqb (ofBytes (take 4 (drop (4 + n + 4 * at) trace))) (ofBytes (take 4 (drop (4 + m + 4 * there) other))))
+      && eqb (wordAt trace (4 + n + 4 * at)) (wordAt other (4 + m + 4 * there)))
   sameLine-bytes =
       λ i. eqb (lineIn-number n trace at h i) (lineIn-number m other there k i)
-      && eqb (lineIn-value n trace at h i) (lineIn-value m other there k i)
+      && eqb (lineIn-value n trace at h long i) (lineIn-value m other there k other-long i)
 
   pub sameLine-differ : (getD trace (4 + at) 0 ≡ getD other (4 + there) 0 → ⊥) → sameLine (lineIn n trace at) (lineIn m other there) ≡ false
   sameLine-differ apart =
       sameLine-bytes
-      ∙ ap (λ b. b && eqb (ofBytes (take 4 (drop (4 + n + 4 * at) trace))) (ofBytes (take 4 (drop (4 + m + 4 * there) other)))) (ne-eqb _ _ apart)
+      ∙ ap (λ b. b && eqb (wordAt trace (4 + n + 4 * at)) (wordAt other (4 + m + 4 * there))) (ne-eqb _ _ apart)
 
   pub sameLine-values : getD trace (4 + at) 0 ≡ getD other (4 + there) 0
       → sameLine (lineIn n trace at) (lineIn m other there)
-      ≡ eqb (ofBytes (take 4 (drop (4 + n + 4 * at) trace))) (ofBytes (take 4 (drop (4 + m + 4 * there) other)))
+      ≡ eqb (wordAt trace (4 + n + 4 * at)) (wordAt other (4 + m + 4 * there))
   sameLine-values same =
       sameLine-bytes
-      ∙ ap (λ b. b && eqb (ofBytes (take 4 (drop (4 + n + 4 * at) trace))) (ofBytes (take 4 (drop (4 + m + 4 * there) other)))) (eq-eqb _ _ same)
+      ∙ ap (λ b. b && eqb (wordAt trace (4 + n + 4 * at)) (wordAt other (4 + m + 4 * there))) (eq-eqb _ _ same)
 
 -- ── The first place at which a test passes ──────────────────────────────────────────────────────────────────────────────────
 

@@ -14,9 +14,10 @@ use Rattle.machine.specs.Lists.{upTo}
 use Rattle.machine.proofs.Laws.Lists.{all-each}
 use Rattle.schedule.specs.Types.{BeginPut, BeginSteal, BeginTake, ClientStore, Drain, Entry, ThiefStep, WorkerStep}
 use Rattle.schedule.specs.Types.{Allowed, Check, Failed, Kind, Meaning, Passed, Refusal, Short, Who}
-use Rattle.schedule.specs.Number.{allBelow, ofBytes}
+use Rattle.number.specs.Number.{wordAt}
+use Rattle.number.proofs.Laws.Words.{word-there}
 use Rattle.schedule.specs.Check.{first}
-use Rattle.schedule.specs.Format.{wordsIn}
+use Rattle.schedule.specs.Format.{allBelow, wordsIn}
 use Rattle.schedule.specs.Entries.{checkEntries, checkOf, entryAt}
 use Rattle.schedule.specs.Faults.{operandAllowed}
 use Rattle.schedule.proofs.Laws.Check.{first-more, first-stops, not-both, upTo-passed}
@@ -139,10 +140,10 @@ module _ (thieves : ℕ) (kinds operands : List ℕ) where
 
 -- an entry whose operand lies in four bytes
 pub entryAt-bytes : (thieves : ℕ) (kinds bytes : List ℕ) (at : ℕ) → at < length kinds → at < length bytes / 4
-    → entryAt thieves kinds (wordsIn bytes) at ≡ entryOf thieves at (getD kinds at 0) (ofBytes (take 4 (drop (4 * at) bytes)))
+    → entryAt thieves kinds (wordsIn bytes) at ≡ entryOf thieves at (getD kinds at 0) (wordAt bytes (4 * at))
 entryAt-bytes thieves kinds bytes at there inside =
     entryAt-both thieves kinds (wordsIn bytes) at there (rw length-wordsIn inside)
-    ∙ ap (entryOf thieves at (getD kinds at 0)) (getD-words (length bytes / 4) at bytes inside)
+    ∙ ap (entryOf thieves at (getD kinds at 0)) (getD-words (length bytes / 4) at bytes inside ∙ sym (word-there bytes (4 * at) (omega arith)))
 
 -- ── A search for the first faulty entry ─────────────────────────────────────────────────────────────────────────────────────
 

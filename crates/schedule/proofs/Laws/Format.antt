@@ -12,10 +12,10 @@ use borrow.Author.Tests.{lt-ltb, ltb-true}
 use Rattle.terms.proofs.Laws.Tests.{both-left, both-right}
 use Rattle.machine.proofs.Laws.Sums.{sumOf, sumOf-append}
 use Rattle.schedule.specs.Types.{Sizes}
-use Rattle.schedule.specs.Number.{littleEndian, ofBytes}
-use Rattle.schedule.specs.Format.{decode, encode, fileOf, kindsIn, layout, operandsIn, sizeBytes, sizeNumbers, wordBytes, wordsIn}
-use Rattle.schedule.specs.Number.{allBelow}
-use Rattle.schedule.proofs.Laws.Number.{allBelow-drop, allBelow-take, length-littleEndian, littleEndian-ofBytes, ofBytes-below, ofBytes-littleEndian}
+use Rattle.number.specs.Number.{littleEndian, ofBytes}
+use Rattle.schedule.specs.Format.{allBelow, decode, encode, fileOf, kindsIn, layout, operandsIn, sizeBytes, sizeNumbers, wordBytes, wordsIn}
+use Rattle.number.proofs.Laws.Number.{length-littleEndian, ofBytes-littleEndian}
+use Rattle.schedule.proofs.Laws.Bytes.{allBelow-drop, allBelow-take, littleEndian-ofBytes, ofBytes-below}
 
 -- ── Any layout ──────────────────────────────────────────────────────────────────────────────────────────────────────────────
 

@@ -9,7 +9,7 @@ use Rattle.terms.specs.Outcome.{numberOf, valueOf}
 use Rattle.terms.specs.Tally.{noneCounted}
 use Rattle.schedule.specs.Types.{Allowed, Entry, Machine, Outcome, Passed, Stepped, Tally}
 use Rattle.schedule.specs.Entries.{checkEntries, entryAt}
-use Rattle.schedule.specs.Number.{littleEndian, overwritten}
+use Rattle.number.specs.Number.{littleEndian, overwritten}
 use Rattle.schedule.specs.Run.{entriesOf, stepped}
 use Rattle.schedule.specs.Totals.{tallyOf}
 use Rattle.schedule.specs.Trace.{traceOf}

@@ -11,7 +11,8 @@ use lib.Seq.{take-all}
 use borrow.Author.Tests.{eq-eqb, eqb-true, le-ltb, lt-ltb, ne-eqb, not-false}
 use Rattle.schedule.specs.Types.{Accepted, Check, Failed, Passed, Refusal, Short, Sizes}
 use Rattle.schedule.specs.declared.reader.Reading.the-variants.{Refused}
-use Rattle.schedule.specs.Number.{ofBytes}
+use Rattle.number.specs.Number.{wordAt}
+use Rattle.number.proofs.Laws.Words.{word-there}
 use Rattle.schedule.specs.Check.{checkRanges, failIf, first}
 use Rattle.schedule.specs.Format.{entriesIn, kindsIn, operandsIn, sizeIn, sizesIn, wordsIn}
 use Rattle.schedule.specs.Entries.{checkEntries}
@@ -32,26 +33,26 @@ behind-none place = λ i. (place .0, zero-add (place .1) i)
 
 module _ (file : List ℕ) where
   -- the size at each place of the table lies at four times its place
-  pub sizeIn-at : (place : ℕ) → place < 7 → sizeIn place file ≡ ofBytes (take 4 (drop (4 * place) file))
-  sizeIn-at place known = getD-words 7 place file known
+  pub sizeIn-at : 28 ≤ length file → (place : ℕ) → place < 7 → sizeIn place file ≡ wordAt file (4 * place)
+  sizeIn-at there place known = getD-words 7 place file known ∙ sym (word-there file (4 * place) (omega arith))
 
   -- six numbers read at these places are the sizes
-  pub sizesIn-at : {slots buffer spacing margin thieves start : ℕ}
-      → slots ≡ ofBytes (take 4 (drop 0 file))
-      → buffer ≡ ofBytes (take 4 (drop 4 file))
-      → spacing ≡ ofBytes (take 4 (drop 8 file))
-      → margin ≡ ofBytes (take 4 (drop 12 file))
-      → thieves ≡ ofBytes (take 4 (drop 16 file))
-      → start ≡ ofBytes (take 4 (drop 20 file))
+  pub sizesIn-at : 28 ≤ length file → {slots buffer spacing margin thieves start : ℕ}
+      → slots ≡ wordAt file 0
+      → buffer ≡ wordAt file 4
+      → spacing ≡ wordAt file 8
+      → margin ≡ wordAt file 12
+      → thieves ≡ wordAt file 16
+      → start ≡ wordAt file 20
       → _≡_ {A = Sizes} (record { slots = slots; buffer = buffer; spacing = spacing; margin = margin; thieves = thieves; start = start }) (sizesIn file)
-  sizesIn-at a b c d e f =
+  sizesIn-at there a b c d e f =
       λ i. record {
-        slots = (a ∙ sym (sizeIn-at 0 (lit< tt))) i;
-        buffer = (b ∙ sym (sizeIn-at 1 (lit< tt))) i;
-        spacing = (c ∙ sym (sizeIn-at 2 (lit< tt))) i;
-        margin = (d ∙ sym (sizeIn-at 3 (lit< tt))) i;
-        thieves = (e ∙ sym (sizeIn-at 4 (lit< tt))) i;
-        start = (f ∙ sym (sizeIn-at 5 (lit< tt))) i;
+        slots = (a ∙ sym (sizeIn-at there 0 (lit< tt))) i;
+        buffer = (b ∙ sym (sizeIn-at there 1 (lit< tt))) i;
+        spacing = (c ∙ sym (sizeIn-at there 2 (lit< tt))) i;
+        margin = (d ∙ sym (sizeIn-at there 3 (lit< tt))) i;
+        thieves = (e ∙ sym (sizeIn-at there 4 (lit< tt))) i;
+        start = (f ∙ sym (sizeIn-at there 5 (lit< tt))) i;
       }
 
   -- the two parts from 28 on and from 28 + entries on are the file's arrays

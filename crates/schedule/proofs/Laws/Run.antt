@@ -27,13 +27,12 @@ use Rattle.schedule.specs.Types.{BeginPut, BeginSteal, BeginTake, Client
 use Rattle.schedule.specs.Types.{Accepted, Allowed, Machine, Meaning, Outcome, Passed, Ran, Room, Sizes, Tally}
 use Rattle.schedule.specs.declared.reader.Reading.the-variants as reading
 use Rattle.schedule.specs.declared.runner.Running.the-variants as running
-use Rattle.schedule.specs.Number.{allBelow}
 use Rattle.schedule.specs.Entries.{checkEntries, entryAt}
-use Rattle.schedule.specs.Format.{entriesIn, kindsIn, operandsIn, sizesIn, wordsIn}
+use Rattle.schedule.specs.Format.{allBelow, entriesIn, kindsIn, operandsIn, sizesIn, wordsIn}
 use Rattle.schedule.specs.Reader.{readFile}
 use Rattle.schedule.specs.Run.{entriesOf, entryMeant, outcomesIn, runFile, runningOf, scheduleIn}
 use Rattle.schedule.specs.Totals.{countedFrom, tallyOf}
-use Rattle.schedule.proofs.Laws.Number.{allBelow-drop}
+use Rattle.schedule.proofs.Laws.Bytes.{allBelow-drop}
 use Rattle.schedule.proofs.Laws.Entries.{check-allowed, entries-passed, entry-as-read}
 use Rattle.schedule.proofs.Laws.Format.{decode-below, length-kindsIn, operandsIn-words}
 use Rattle.schedule.proofs.Laws.Reader.{accepted-readable, kinds-part, operands-part, part-to-end, parts-checked}

@@ -11,14 +11,16 @@ use Rattle.terms.specs.Outcome.{numberOf, valueOf}
 use Rattle.terms.specs.declared.outcome.Outcome.the-variants.{Moved, Place, Early, Wait, Stored, Task, Empty, Abort, Full, End}
 use Rattle.machine.specs.Lists.{gather, upFrom}
 use Rattle.schedule.specs.Types.{Outcome}
-use Rattle.schedule.specs.Number.{allBelow, littleEndian, ofBytes, overwritten}
+use Rattle.number.specs.Number.{littleEndian, ofBytes, overwritten, wordAt}
+use Rattle.schedule.specs.Format.{allBelow}
 use Rattle.schedule.specs.Format.{decode, encode, wordBytes}
 use Rattle.schedule.specs.Trace.{TraceLength, lineIn, lineOf, traceLayout, traceOf}
 use Rattle.schedule.specs.Demand3.{answerIn, answersIn}
-use Rattle.schedule.proofs.Laws.Number.{length-littleEndian}
+use Rattle.number.proofs.Laws.Number.{length-littleEndian}
 use Rattle.schedule.proofs.Laws.Format.{decode-append, decode-encode, encode-append, encode-bytes, fitting, fitting-append, fitting-replicate}
 use Rattle.schedule.proofs.Laws.Format.{getD-words, length-decode, length-wordBytes, total, total-replicate}
-use Rattle.schedule.proofs.Laws.Overwritten.{length-overwritten, overwritten-apart, overwritten-behind, overwritten-nothing}
+use Rattle.number.proofs.Laws.Words.{word-there}
+use Rattle.number.proofs.Laws.Overwritten.{length-overwritten, overwritten-apart, overwritten-behind, overwritten-nothing}
 use Rattle.schedule.proofs.Laws.Words.{wordBytes-append}
 
 -- ── A trace that is written ─────────────────────────────────────────────────────────────────────────────────────────────────
@@ -161,8 +163,8 @@ module _ (n : ℕ) (trace : List ℕ) where
         behind at ∙ List·getD-append bytes words 0 at (omega (arith, length-bytes)) ∙ getD-bytes n at (drop 4 trace) there ∙ getD-drop 4 trace at 0
 
     -- .. and its value is four of those behind these
-    pub lineIn-value : lineIn n trace at .value ≡ ofBytes (take 4 (drop (4 + n + 4 * at) trace))
-    lineIn-value =
+    pub lineIn-value : 4 + 5 * n ≤ length trace → lineIn n trace at .value ≡ wordAt trace (4 + n + 4 * at)
+    lineIn-value long =
         let next : 1 + n + at ≡ 1 + (n + at) = omega arith in
         let place : n + at ≡ length bytes + at = omega (arith, length-bytes) in
         ap (λ k. getD (decode (traceLayout n) trace) k 0) next
@@ -171,6 +173,7 @@ module _ (n : ℕ) (trace : List ℕ) where
         ∙ getD-append-add bytes words at 0
         ∙ getD-words n at (drop (4 + n) trace) there
         ∙ ap (λ l. ofBytes (take 4 l)) (drop-drop (4 * at) (4 + n) trace)
+        ∙ sym (word-there trace (4 + n + 4 * at) (omega arith))
 
 -- ── What stands in a trace that was written ─────────────────────────────────────────────────────────────────────────────────
 

@@ -10,14 +10,14 @@ use borrow.Author.Tests.{eq-eqb, eqb-true, le-ltb, leb-true, lt-ltb, ltb-false, 
 use Rattle.terms.proofs.Laws.Tests.{both-right}
 use Rattle.schedule.specs.Types.{Check, Failed, Passed, Refusal, Room, Short, Sizes, Written}
 use Rattle.schedule.specs.declared.writer.Writing.the-variants.{Refused}
-use Rattle.schedule.specs.Number.{allBelow, overwritten}
+use Rattle.number.specs.Number.{overwritten}
 use Rattle.schedule.specs.Check.{checkRanges, failIf, first}
-use Rattle.schedule.specs.Format.{fileOf, sizeBytes, wordBytes}
+use Rattle.schedule.specs.Format.{allBelow, fileOf, sizeBytes, wordBytes}
 use Rattle.schedule.specs.Entries.{checkEntries}
 use Rattle.schedule.specs.Writer.{writingOf, checkWriting, writeFile, writingChecks}
 use Rattle.schedule.proofs.Laws.Check.{failIf-passed, first-failed, first-passed, ranges-passed}
 use Rattle.schedule.proofs.Laws.Format.{fileOf-parts, length-sizeBytes}
-use Rattle.schedule.proofs.Laws.Overwritten.{overwritten-behind}
+use Rattle.number.proofs.Laws.Overwritten.{overwritten-behind}
 
 -- which check decides, where one fails
 module _ (s : Sizes) (kinds operands : List ℕ) (room : ℕ) where

@@ -9,7 +9,7 @@ use Rattle.schedule.specs.Types.{Accepted, Sizes}
 use Rattle.schedule.specs.Comparison.{linesFrom}
 use Rattle.schedule.specs.Reader.{readFile}
 use Rattle.schedule.proofs.Laws.Alike.{lines-of-file, same-answers}
-use Rattle.schedule.proofs.Laws.Number.{each-below}
+use Rattle.schedule.proofs.Laws.Bytes.{each-below}
 use Rattle.schedule.proofs.Laws.Reader.{accepted-long}
 use Rattle.schedule.proofs.Laws.Run.{parts-obeyed}
 use Rattle.schedule.proofs.likeness.same_runs.Statement.{statement}

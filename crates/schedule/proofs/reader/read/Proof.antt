@@ -17,7 +17,9 @@ returns c = sym (read-under-28 (c .before .before .args .file .now) (c .if1 .tak
 
 -- the number of entries that was decoded is that of the file
 entries-read : (c : tie.After-check-ranges) → c .before .word-at .result ≡ entriesIn (c .before .before .before .before .before .args .file .now)
-entries-read c = c .before .word-at .ensures ∙ sym (sizeIn-at (c .before .before .before .before .before .args .file .now) 6 (lit< tt))
+entries-read c =
+    let tested = c .before .before .before in
+    c .before .word-at .ensures ∙ sym (sizeIn-at (tested .before .before .args .file .now) (tested .if1 .left) 6 (lit< tt))
 
 -- and the check of the sizes is that of the file's
 ranges-checked : (c : tie.After-check-ranges)

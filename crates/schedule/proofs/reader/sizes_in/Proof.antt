@@ -6,7 +6,8 @@ use Rattle.schedule.proofs.reader.sizes_in.Tie as tie
 
 returns : tie.Need-returns
 returns c =
-    sizesIn-at (c .before .before .before .before .before .before .before .args .file .now)
+    let start = c .before .before .before .before .before .before .before in
+    sizesIn-at (start .args .file .now) (start .pre)
     (c .before .before .before .before .before .word-at .ensures)
     (c .before .before .before .before .word-at2 .ensures)
     (c .before .before .before .word-at3 .ensures)

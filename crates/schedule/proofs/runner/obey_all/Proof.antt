@@ -6,6 +6,7 @@ use borrow.Author.Needs.{needs}
 use lib.ListN.{length}
 use Rattle.machine.specs.Machine.{fresh}
 use Rattle.schedule.specs.Format.{wordsIn}
+use Rattle.number.proofs.Laws.Words.{put-there}
 use Rattle.schedule.proofs.Laws.Obeyed.{Obeyed, obeyed-all, obeyed-more, obeyed-none}
 use Rattle.schedule.proofs.Laws.Run.{none-refused}
 use Rattle.schedule.proofs.runner.obey_all.Statement.{statement}
@@ -65,13 +66,6 @@ loop-again c =
       put .put-outcome .kept .0 ∙ turn .loop .inv .2,
     )
 
-put-word-requires : tie.Need-put-word-requires Inv-loop μ-loop
-put-word-requires c κs =
-    let turn = c .before .before in
-    let start = turn .before .before .before .before .before .before in
-    let room : 4 ≤ length (turn .loop .trace) = omega (arith, start .pre .0 .2, turn .loop .inv .2) in
-    room
-
 same-length-2 : tie.Need-same-length-2 Inv-loop μ-loop
 same-length-2 c = c .before .before .put-word .kept .0 ∙ c .before .before .before .before .before .loop .inv .2
 
@@ -83,7 +77,8 @@ returns-2 c =
     let end : turn .loop .at ≡ length (a .kinds .now) = omega (arith, turn .loop .inv .1, c .before .before .before .before .loop-test .left) in
     let all = obeyed-all (fresh (a .sizes)) (a .sizes .thieves) (a .kinds .now) (wordsIn (a .operands .now)) (a .trace .now) (start .pre .1) (start .pre .0 .2)
     _ _ _ (turn .loop .at) end (turn .loop .inv .0) in
-    (all .0, c .before .before .put-word .ensures ∙ all .1)
+    let room : 4 ≤ length (turn .loop .trace) = omega (arith, start .pre .0 .2, turn .loop .inv .2) in
+    (all .0, c .before .before .put-word .ensures ∙ put-there 0 (length (a .kinds .now)) (turn .loop .trace) room ∙ all .1)
 
 pub obey-all-spec : {M : Type 1} → statement M
 obey-all-spec =
@@ -105,6 +100,6 @@ obey-all-spec =
     (λ c. omega arith)
     loop-again
     (λ c. omega arith)
-    put-word-requires
+    (λ c κs. search needs)
     same-length-2
     returns-2)

@@ -4,7 +4,7 @@ use Prim.Native.Nat.{_+_, _*_, _≤_}
 use native.Mathlib.Omega.{arith}
 use borrow.Author.Needs.{needs}
 use lib.ListN.{length}
-use Rattle.schedule.specs.Number.{overwritten}
+use Rattle.number.specs.Number.{overwritten}
 use Rattle.schedule.specs.Totals.{tallyOf}
 use Rattle.schedule.specs.Trace.{traceOf}
 use Rattle.schedule.proofs.Laws.Reader.{accepted-holds}

@@ -11,7 +11,7 @@ use Rattle.schedule.specs.Reader.{refusalOf}
 use Rattle.schedule.specs.Run.{outcomesIn, traceIf}
 use Rattle.schedule.specs.Trace.{traceOf}
 use Rattle.schedule.proofs.Demand3.{run-promises}
-use Rattle.schedule.proofs.Laws.Number.{each-below}
+use Rattle.schedule.proofs.Laws.Bytes.{each-below}
 use Rattle.schedule.proofs.Laws.Run.{parts-obeyed, run-refused, run-without-room, run-with-room}
 use Rattle.schedule.proofs.runner.run.Statement.{statement}
 use Rattle.schedule.proofs.runner.run.Tie as tie

@@ -6,8 +6,8 @@ use native.Mathlib.Omega.{arith}
 use lib.ListN.{length, take}
 use lib.Seq.{take-length}
 use Rattle.schedule.specs.Format.{wordBytes}
-use Rattle.schedule.specs.Number.{overwritten}
-use Rattle.schedule.proofs.Laws.Overwritten.{overwritten-nothing}
+use Rattle.number.specs.Number.{overwritten}
+use Rattle.number.proofs.Laws.Overwritten.{overwritten-nothing}
 use Rattle.schedule.proofs.Laws.Words.{words-more}
 use Rattle.schedule.proofs.writer.put_operands.Statement.{statement}
 use Rattle.schedule.proofs.writer.put_operands.Tie as tie

@@ -2,6 +2,7 @@
 use native.Mathlib.Omega.{arith}
 use borrow.Author.Needs.{needs}
 use Rattle.schedule.specs.Format.{sizeNumbers}
+use Rattle.number.proofs.Laws.Overwritten.{overwritten-nothing}
 use Rattle.schedule.proofs.Laws.Words.{words-more}
 use Rattle.schedule.proofs.writer.put_sizes.Statement.{statement}
 use Rattle.schedule.proofs.writer.put_sizes.Tie as tie
@@ -17,7 +18,8 @@ returns c =
     let c1 = c2 .before .before .before .before in
     let given = c1 .before .before .before .before .before .args in
     let more = words-more 0 (sizeNumbers (given .sizes) (given .entries)) (given .buffer .now) (omega arith) in
-    let two = more 1 (omega arith) _ _ (c1 .before .before .put-word .ensures) (c2 .before .before .put-word2 .ensures) in
+    let one = more 0 (omega arith) _ _ (overwritten-nothing 0 (given .buffer .now)) (c1 .before .before .put-word .ensures) in
+    let two = more 1 (omega arith) _ _ one (c2 .before .before .put-word2 .ensures) in
     let three = more 2 (omega arith) _ _ two (c3 .before .before .put-word3 .ensures) in
     let four = more 3 (omega arith) _ _ three (c4 .before .before .put-word4 .ensures) in
     let five = more 4 (omega arith) _ _ four (c5 .before .before .put-word5 .ensures) in

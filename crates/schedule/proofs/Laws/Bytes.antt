@@ -1,28 +1,17 @@
--- Laws of numbers in bytes: as many bytes as asked for, and there and back again, both ways.
+-- Laws of bytes, numbers below 256: they are the bytes of the number that they are, and so are parts of them.
 use mathlib.Core.Path.{_≡_, refl, ap, _∙_}
 use mathlib.Core.Bool.{true}
 use mathlib.Core.List.{List, [], _∷_}
 use Prim.Native.Nat.{ℕ, zero, suc, _+_, _*_, _/_, _%_, _^_, _<_}
-use native.Mathlib.Nat.{div-lt-iff-lt-mul, mod-add-div, pow-suc}
+use native.Mathlib.Nat.{pow-suc}
 use native.Mathlib.Omega.{arith}
 use lib.Dec.{ltb}
 use lib.ListN.{drop, getD, length, take}
 use borrow.Author.Tests.{lt-ltb, ltb-true}
 use Rattle.terms.proofs.Laws.Tests.{both-left, both-right}
 use Rattle.machine.proofs.Laws.Lists.{all-each}
-use Rattle.schedule.specs.Number.{allBelow, littleEndian, ofBytes}
-
--- a number in so many bytes is so many bytes
-pub length-littleEndian : (w n : ℕ) → length (littleEndian w n) ≡ w
-length-littleEndian zero n = refl
-length-littleEndian (suc w) n = ap suc (length-littleEndian w (n / 256))
-
--- a number that fits so many bytes is the number that these bytes are
-pub ofBytes-littleEndian : (w n : ℕ) → n < 256 ^ w → ofBytes (littleEndian w n) ≡ n
-ofBytes-littleEndian zero n fits = omega arith
-ofBytes-littleEndian (suc w) n fits =
-    let rest : n / 256 < 256 ^ w = div-lt-iff-lt-mul {k = 256} {x = n} (omega arith) .1 (rw pow-suc at fits) in
-    ap (λ k. n % 256 + 256 * k) (ofBytes-littleEndian w (n / 256) rest) ∙ mod-add-div n 256
+use Rattle.number.specs.Number.{littleEndian, ofBytes}
+use Rattle.schedule.specs.Format.{allBelow}
 
 -- bytes are the bytes of the number that they are
 pub littleEndian-ofBytes : (l : List ℕ) → allBelow 256 l ≡ true → littleEndian (length l) (ofBytes l) ≡ l

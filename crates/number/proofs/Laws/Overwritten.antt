@@ -7,7 +7,7 @@ use native.Mathlib.Numerals.{add-one, add-three, add-two}
 use native.Mathlib.Omega.{arith}
 use lib.ListN.{length, drop, length-append, set, take, take-append-drop}
 use lib.Seq.{drop-append-le, drop-at, drop-drop, length-sets, length-take-le, paste-zero, sets-eq, take-append-le, take-at}
-use Rattle.schedule.specs.Number.{overwritten}
+use Rattle.number.specs.Number.{overwritten}
 
 -- a list overwritten with nothing is as it was
 pub overwritten-nothing : (at : ℕ) (l : List ℕ) → l ≡ overwritten at [] l

@@ -1,0 +1,2 @@
+-- What the promises about numbers in bytes say.
+pub mod Number

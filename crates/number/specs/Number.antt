@@ -1,0 +1,39 @@
+-- Numbers in bytes. Renders "least significant first", of "The schedule file" and of "Trace" in the scope paper, 01.
+use mathlib.Core.Path.{_≡_}
+use mathlib.Core.Bool.{Bool, cond}
+use mathlib.Core.List.{List, [], _∷_, _++_}
+use Prim.Native.Nat.{ℕ, zero, suc, _+_, _*_, _/_, _%_}
+use lib.Dec.{leb}
+use lib.ListN.{length, drop, take}
+
+-- a number in so many bytes, the least significant first
+abbrev pub littleEndian : ℕ → ℕ → List ℕ
+littleEndian zero n = []
+littleEndian (suc width) n = n % 256 ∷ littleEndian width (n / 256)
+
+-- the number that some bytes are
+abbrev pub ofBytes : List ℕ → ℕ
+ofBytes [] = 0
+ofBytes (b ∷ l) = b + 256 * ofBytes l
+
+-- The order shows in an example, a number whose bytes are 1, 2, 3 and 4. Proved in `proofs/ByteOrder.antt`.
+abbrev pub LeastSignificantFirst : Type 0
+LeastSignificantFirst = (littleEndian 4 67305985 ≡ 1 ∷ 2 ∷ 3 ∷ 4 ∷ []) × (ofBytes (1 ∷ 2 ∷ 3 ∷ 4 ∷ []) ≡ 67305985)
+
+-- a list with other elements from a place on, as many as are given: a file at the front of a buffer, and each part of it behind the one before
+abbrev pub overwritten : ℕ → List ℕ → List ℕ → List ℕ
+overwritten at new l = take at l ++ new ++ drop (at + length new) l
+
+-- ── Numbers of four bytes ───────────────────────────────────────────────────────────────────────────────────────────────────
+
+-- the four bytes from a place on lie within so many
+abbrev pub fits : ℕ → ℕ → Bool
+fits at bytes = leb (at + 4) bytes
+
+-- the number that the four bytes from a place on are; 0, if they are not all there, and nothing in 01 goes by that number
+abbrev pub wordAt : List ℕ → ℕ → ℕ
+wordAt bytes at = cond (fits at (length bytes)) (ofBytes (take 4 (drop at bytes))) 0
+
+-- bytes with a number in the four from a place on; as they were, if these are not all there
+abbrev pub wordPut : ℕ → ℕ → List ℕ → List ℕ
+wordPut at number bytes = cond (fits at (length bytes)) (overwritten at (littleEndian 4 number) bytes) bytes
