@@ -8,5 +8,3 @@ pub mod Writer
 pub mod Trace
 pub mod Run
 pub mod Obeyed
-pub mod Comparison
-pub mod Alike

@@ -6,4 +6,3 @@ pub mod RoundTrip
 pub mod Totals
 pub mod Schedules
 pub mod Demand3
-pub mod AlikeExactly

@@ -13,7 +13,6 @@ use Rattle.schedule.specs.Types.{Accepted, Allowed, Meaning, Reading, Re
 use Rattle.schedule.specs.Types.{BeginPut, BeginSteal, BeginTake, ClientStore, Drain, Entry, ThiefStep, WorkerStep}
 use Rattle.schedule.specs.declared.reader.Reading.the-variants as reading
 use Rattle.schedule.specs.declared.writer.Writing.the-variants as writing
-use Rattle.schedule.specs.Alike.{sameSizes}
 use Rattle.number.specs.Number.{littleEndian}
 use Rattle.schedule.specs.Format.{sizeNumbers, wordBytes, wordsIn}
 use Rattle.schedule.specs.Entries.{entryAt}
@@ -46,7 +45,7 @@ abbrev pub refusedBy : Refusal → ℕ → ℕ → Bool
 refusedBy r number place = eqb (numberOf r) number && eqb (placeOf r) place
 
 abbrev pub isRead : Sizes → ℕ → Reading → Bool
-isRead s n (Accepted t entries) = sameSizes s t && eqb n entries
+isRead s n (Accepted t entries) = equal (sizeNumbers s n) (sizeNumbers t entries)
 isRead s n (reading.Refused r) = false
 
 abbrev pub isNotRead : ℕ → ℕ → Reading → Bool

@@ -1,5 +1,5 @@
 -- What the promises about schedule files say. Names in quotation marks are places of the scope paper, 01. The files stand in reading order; `readFile` in `Reader`,
--- `writeFile` in `Writer`, `runFile` in `Run` and `likeness` in `Alike` are what `read`, `write`, `run` and `alike` answer, `bufferAfter` and `traceAfter` what lent memory holds afterwards. `layout` in `Format` is what reader and writer go by.
+-- `writeFile` in `Writer` and `runFile` in `Run` are what `read`, `write` and `run` answer, `bufferAfter` and `traceAfter` what lent memory holds afterwards. `layout` in `Format` is what reader and writer go by.
 --
 -- numbers in bytes                      Number, of `number`
 -- refusals, their numbers and places    Refusal, of `terms`
@@ -13,12 +13,10 @@
 -- the trace, and what stands in it      Trace
 -- running a file, and one step          Run
 -- demand 3 of a trace                   Demand3
--- alike schedules                       Alike
--- how two traces are compared           Comparison
 -- what is refused, and for what         Faults
 -- reading what was written, and back    RoundTrip
 -- files at their edges, as a table      Edges
--- runs and alike schedules, as a table  Runs
+-- runs, as a table                      Runs
 pub mod Types
 pub mod Check
 pub mod Format
@@ -29,8 +27,6 @@ pub mod Totals
 pub mod Trace
 pub mod Run
 pub mod Demand3
-pub mod Alike
-pub mod Comparison
 pub mod Faults
 pub mod RoundTrip
 pub mod Edges

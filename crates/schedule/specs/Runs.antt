@@ -1,5 +1,4 @@
--- Runs and alike schedules, as one table over the definitions: the example of "The program's lines", the last line of "Rehearsals" with its trace, M2 and M3 as traces, every outcome in the bytes of a trace, rooms one byte short, refusals in their order, each outcome counted, also at the largest total, and schedules that are
--- alike or differ in one thing. `proofs/Runs.antt` proves one fact: every row holds.
+-- Runs, as one table over the definitions: the example of "The program's lines", the last line of "Rehearsals" with its trace, M2 and M3 as traces, every outcome in the bytes of a trace, rooms one byte short, refusals in their order, and each outcome counted, also at the largest total. `proofs/Runs.antt` proves one fact: every row holds.
 use mathlib.Core.Bool.{Bool, true, false, _&&_}
 use mathlib.Core.List.{List, [], _∷_, _++_, map}
 use Prim.Native.Nat.{ℕ}
@@ -9,10 +8,9 @@ use Rattle.terms.specs.declared.outcome.Outcome.the-variants.{Moved, Place, Ear
 use Rattle.terms.specs.Outcome.{numberOf}
 use Rattle.terms.specs.Tally.{counted}
 use Rattle.machine.specs.Machine.{fresh}
-use Rattle.schedule.specs.Types.{Alike, FirstRefused, Likeness, NotAlike, Outcome, Ran, Running, SecondRefused, Sizes, Tally}
+use Rattle.schedule.specs.Types.{Outcome, Ran, Running, Sizes, Tally}
 use Rattle.schedule.specs.Types.{BeginPut, BeginSteal, BeginTake, ClientStore, Drain, Entry, ThiefStep, WorkerStep}
 use Rattle.schedule.specs.declared.runner.Running.the-variants as running
-use Rattle.schedule.specs.Alike.{likeness}
 use Rattle.schedule.specs.Edges.{before, equal, exampleFile, fileWith, refusedBy, sized}
 use Rattle.terms.specs.Kinds.{kindOf, operandOf}
 use Rattle.schedule.specs.Format.{fileOf}
@@ -29,12 +27,6 @@ pub data Row : Type 0 where
   steps : Sizes → Tally → List Entry → (numbers : List ℕ) → Tally → Row
   -- totals with one outcome more
   counts : Tally → Outcome → Tally → Row
-  -- two files that are alike, and two that are not
-  like : (first second : List ℕ) → Row
-  unlike : (first second : List ℕ) → Row
-  -- two files of which the first is refused, or else the second, with number and place
-  refusesFirst : (first second : List ℕ) (number place : ℕ) → Row
-  refusesSecond : (first second : List ℕ) (number place : ℕ) → Row
 
 abbrev pub equalTotals : Tally → Tally → Bool
 equalTotals t u = eqb (t .given) (u .given) && eqb (t .aborts) (u .aborts) && eqb (t .waits) (u .waits)
@@ -50,30 +42,6 @@ abbrev pub isNotRun : ℕ → ℕ → Running → Bool
 isNotRun number place (Ran t) = false
 isNotRun number place (running.Refused r) = refusedBy r number place
 
-abbrev pub isLike : Likeness → Bool
-isLike Alike = true
-isLike NotAlike = false
-isLike (FirstRefused r) = false
-isLike (SecondRefused r) = false
-
-abbrev pub isUnlike : Likeness → Bool
-isUnlike Alike = false
-isUnlike NotAlike = true
-isUnlike (FirstRefused r) = false
-isUnlike (SecondRefused r) = false
-
-abbrev pub isFirstRefused : ℕ → ℕ → Likeness → Bool
-isFirstRefused number place Alike = false
-isFirstRefused number place NotAlike = false
-isFirstRefused number place (FirstRefused r) = refusedBy r number place
-isFirstRefused number place (SecondRefused r) = false
-
-abbrev pub isSecondRefused : ℕ → ℕ → Likeness → Bool
-isSecondRefused number place Alike = false
-isSecondRefused number place NotAlike = false
-isSecondRefused number place (FirstRefused r) = false
-isSecondRefused number place (SecondRefused r) = refusedBy r number place
-
 abbrev pub holds : Row → Bool
 holds (runs file room after given aborts waits) =
     isRun given aborts waits (runFile file room) && equal (traceAfter file (before room)) after
@@ -81,10 +49,6 @@ holds (declines file room number place) = isNotRun number place (runFile file ro
 holds (steps s t es numbers after) =
     equal (map numberOf (outcomesOfSteps (fresh s) t es)) numbers && equalTotals (afterSteps (fresh s) t es .1) after
 holds (counts t o after) = equalTotals (counted t o) after
-holds (like first second) = isLike (likeness first second)
-holds (unlike first second) = isUnlike (likeness first second)
-holds (refusesFirst first second number place) = isFirstRefused number place (likeness first second)
-holds (refusesSecond first second number place) = isSecondRefused number place (likeness first second)
 
 -- ── Files and parts of traces ───────────────────────────────────────────────────────────────────────────────────────────────
 
@@ -196,68 +160,5 @@ countedRows =
     ∷ counts (totals 4294967295 4294967295 4294967295) Wait (totals 4294967295 4294967295 4294967295)
     ∷ []
 
--- a schedule under six sizes, and the answers in it: one put, one take, an ABORT for a thief
-abbrev pub plain : List Entry → List ℕ
-plain es = file (sized 8 2 0 2 2 0) es
-
-abbrev pub one : List Entry
-one = put 7 ++ drains ++ take
-
-abbrev pub three : ℕ → List Entry
-three x = put x ++ drains ++ put 2 ++ drains ++ put 3 ++ drains
-
--- a put that ends with its first step, and a take that finds nothing
-abbrev pub atTheEnd : List Entry
-atTheEnd = BeginPut 1 ∷ WorkerStep ∷ []
-
-abbrev pub takeOfNothing : List Entry
-takeOfNothing = BeginTake ∷ WorkerStep ∷ WorkerStep ∷ Drain ∷ WorkerStep ∷ WorkerStep ∷ WorkerStep ∷ Drain ∷ WorkerStep ∷ []
-
-abbrev pub likenessRows : List Row
-likenessRows =
-    like (plain []) (plain [])
-    ∷ like (plain one) (plain one)
-    -- other refusals, and other entries beside the answers
-    ∷ like (plain one) (plain (WorkerStep ∷ Drain ∷ one))
-    ∷ like (plain one) (plain (one ++ (BeginTake ∷ BeginTake ∷ ThiefStep 1 ∷ [])))
-    ∷ like (plain (one ++ (Drain ∷ Drain ∷ []))) (plain one)
-    -- the order between parties
-    ∷ like (plain (steal 0 ++ put 7 ++ drains)) (plain (put 7 ++ drains ++ steal 0))
-    ∷ like (plain (steal 0 ++ steal 1)) (plain (steal 1 ++ steal 0))
-    -- another value, another answer, one answer more or less
-    ∷ unlike (plain one) (plain (put 8 ++ drains ++ take))
-    ∷ unlike (plain (put 7 ++ drains ++ put 7)) (plain one)
-    ∷ unlike (plain one) (plain (put 7))
-    ∷ unlike (plain (put 7)) (plain one)
-    ∷ unlike (plain (put 7)) (plain [])
-    ∷ unlike (plain one) (plain (put 16777223 ++ drains ++ take))
-    -- END, FULL or EMPTY once more
-    ∷ unlike (file (sized 4 1 0 1 1 2147483647) atTheEnd) (file (sized 4 1 0 1 1 2147483647) (atTheEnd ++ atTheEnd))
-    ∷ unlike (file (sized 2 2 0 2 1 0) (put 1)) (file (sized 2 2 0 2 1 0) (put 1 ++ atTheEnd))
-    ∷ unlike (file (sized 4 1 1 1 1 0) []) (file (sized 4 1 1 1 1 0) takeOfNothing)
-    -- a thief's answers: another thief, another value, one more or less; the worker's are the same
-    ∷ unlike (plain (steal 0)) (plain (steal 1))
-    ∷ unlike (plain (three 1 ++ steal 0)) (plain (three 9 ++ steal 0))
-    ∷ like (plain (three 1 ++ steal 0)) (plain (three 1 ++ steal 0))
-    ∷ unlike (plain (steal 1)) (plain [])
-    ∷ unlike (plain []) (plain (steal 1))
-    ∷ unlike (plain (three 1 ++ steal 0 ++ steal 0)) (plain (three 1 ++ steal 0 ++ (BeginSteal 0 ∷ [])))
-    -- the same answers in another order
-    ∷ unlike (plain (put 1 ++ drains ++ put 2 ++ drains ++ take ++ take)) (plain (put 2 ++ drains ++ put 1 ++ drains ++ take ++ take))
-    -- other sizes, each by itself; a margin of 0 is not the buffer size
-    ∷ unlike (plain []) (file (sized 9 2 0 2 2 0) [])
-    ∷ unlike (plain []) (file (sized 8 3 0 2 2 0) [])
-    ∷ unlike (plain []) (file (sized 8 2 1 2 2 0) [])
-    ∷ unlike (plain []) (file (sized 8 2 0 0 2 0) [])
-    ∷ unlike (plain []) (file (sized 8 2 0 2 3 0) [])
-    ∷ unlike (plain []) (file (sized 8 2 0 2 2 1) [])
-    -- refused files: the first one's first
-    ∷ refusesFirst [] (plain one) 2 0
-    ∷ refusesFirst (file (sized 8 2 0 2 0 0) []) [] 1 4
-    ∷ refusesSecond (plain one) [] 2 0
-    ∷ refusesSecond (plain one) (plain (Drain ∷ ThiefStep 2 ∷ [])) 4 1
-    ∷ refusesSecond (plain []) (file (sized 9 2 0 2 9 0) []) 1 4
-    ∷ []
-
 abbrev pub table : List Row
-table = ranRows ++ countedRows ++ likenessRows
+table = ranRows ++ countedRows

@@ -11,8 +11,6 @@ pub use Rattle.terms.specs.declared.sizes.SizeCheck.the-variants.{AllInRange, O
 pub use Rattle.terms.specs.declared.sizes.Sizes.{Sizes}
 pub use Rattle.terms.specs.declared.tally.Tally.{Tally}
 pub use Rattle.machine.specs.declared.machine.Machine.{Machine}
-pub use Rattle.schedule.specs.declared.likeness.Likeness.{Likeness}
-pub use Rattle.schedule.specs.declared.likeness.Likeness.the-variants.{Alike, NotAlike, FirstRefused, SecondRefused}
 pub use Rattle.schedule.specs.declared.check.Check.{Check}
 pub use Rattle.schedule.specs.declared.check.Check.the-variants.{Passed, Failed}
 pub use Rattle.schedule.specs.declared.reader.Reading.{Reading}

@@ -8,8 +8,7 @@
 //
 // `run` obeys every entry of a file from the fresh machine and writes the trace into memory that the caller lends, of which a
 // refusal touches nothing; it tells the totals. With enough margin the answers in that trace are those of a plain queue, and its
-// promise says so (`specs/Demand3.antt`). `step` is one entry of a run, to watch. `alike` says whether two schedules give the
-// worker and each thief the same answers.
+// promise says so (`specs/Demand3.antt`). `step` is one entry of a run, to watch.
 //
 // Reader and writer go by one layout (`specs/Format.antt`), and what one writes the other reads, and the other way round
 // (`specs/RoundTrip.antt`). Sizes, entries with their kinds, outcomes, refusals and totals are those of the library `terms`.
@@ -19,23 +18,22 @@
 // - `layout`: the lengths of a file's parts;
 // - `entries`: one entry, and the first faulty one;
 // - `reader`, `writer`: a file as a whole;
-// - `runner`: one step, and a run with its trace;
-// - `likeness`: whether two schedules are alike.
+// - `runner`: one step, and a run with its trace.
 mod check;
 mod entries;
 mod layout;
-mod likeness;
 mod reader;
 mod runner;
 mod writer;
 
 pub use entries::entry_at;
-pub use likeness::Likeness;
-pub use likeness::alike;
+pub use layout::ENTRY_BYTES;
+pub use layout::SIZES_BYTES;
 pub use reader::Reading;
 pub use reader::kind_part;
 pub use reader::operand_part;
 pub use reader::read;
+pub use reader::refusal_of;
 pub use runner::Running;
 pub use runner::Stepped;
 pub use runner::run;

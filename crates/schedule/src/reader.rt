@@ -64,7 +64,7 @@ pub fn read(file: &[u8]) -> Reading
 }
 
 // The refusal that a reading is. An accepted file has none, and nobody asks for it.
-pub(crate) fn refusal_of(reading: Reading) -> Refusal
+pub fn refusal_of(reading: Reading) -> Refusal
     ensures { λ r. ⌜ r ≡ refusalOf reading ⌝ }
 {
     match reading {

@@ -102,7 +102,7 @@ fn obey_all(sizes: Sizes, kinds: &[u8], operands: &[u8], trace: &mut [u8]) -> Ta
 }
 
 // Obeys the entries of a file that was read, and writes the trace.
-pub(crate) fn obey_file(file: &[u8], sizes: Sizes, entries: usize, trace: &mut [u8]) -> Tally
+fn obey_file(file: &[u8], sizes: Sizes, entries: usize, trace: &mut [u8]) -> Tally
     requires { ⌜ (readFile (now file) ≡ Accepted sizes entries) × (4 + 5 * entries ≤ length (now trace)) ⌝ }
     ensures { λ r. ⌜ r ≡ tallyOf (outcomesIn (now (file .entry))) ⌝ }
     ensures { λ _. ⌜ now (trace .exit) ≡ overwritten 0 (traceOf (outcomesIn (now (file .entry)))) (now (trace .entry)) ⌝ }

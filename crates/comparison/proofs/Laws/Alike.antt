@@ -13,20 +13,20 @@ use Rattle.terms.specs.Outcome.{isAnswer}
 use Rattle.terms.specs.Kinds.{kindOf, operandOf}
 use Rattle.terms.proofs.Laws.Tests.{both-left, both-right}
 use Rattle.machine.specs.Lists.{all, gather, upFrom, upTo}
-use Rattle.schedule.specs.Types.{BeginPut, BeginSteal, BeginTake, ClientStore, Drain, Entry, Outcome, Sizes, ThiefStep, WorkerStep, Accepted}
+use Rattle.comparison.specs.Types.{BeginPut, BeginSteal, BeginTake, ClientStore, Drain, Entry, Outcome, Sizes, ThiefStep, WorkerStep, Accepted}
 use Rattle.schedule.specs.Format.{allBelow, entriesIn, kindsIn, operandsIn, sizesIn}
 use Rattle.schedule.specs.Trace.{Line, lineIn, lineOf, traceOf}
-use Rattle.schedule.specs.Alike.{answersOf, answersFor, partyNumber, sameAnswers, sameLine, sameLines, sameSizes}
-use Rattle.schedule.specs.Comparison.{answered, linesFrom, partyIn, sameForAll}
+use Rattle.comparison.specs.Alike.{answersOf, answersFor, partyNumber, sameAnswers, sameLine, sameLines, sameSizes}
+use Rattle.comparison.specs.Comparison.{answered, linesFrom, partyIn, sameForAll}
 use Rattle.number.specs.Number.{overwritten}
 use Rattle.schedule.specs.Reader.{readFile}
 use Rattle.schedule.specs.Run.{outcomesIn, scheduleIn}
 use Rattle.machine.specs.Machine.{fresh}
 use Rattle.schedule.proofs.Laws.Entries.{entry-as-read, entryAt-both}
 use Rattle.schedule.proofs.Laws.Format.{length-kindsIn, length-operandsIn}
 use Rattle.schedule.proofs.Laws.Reader.{accepted-readable}
 use Rattle.schedule.proofs.Laws.Run.{entriesUpTo-at, file-values-fit, length-outcomesOf, schedule-length}
 use Rattle.schedule.proofs.Laws.Trace.{lineIn-written}
 
 -- ── The comparison in bytes ─────────────────────────────────────────────────────────────────────────────────────────────────
 

@@ -6,9 +6,9 @@ use Prim.Native.Nat.{ℕ, zero, suc, _+_, _-_}
 use lib.Dec.{eqb, leb, ltb}
 use lib.ListN.{getD}
 use Rattle.machine.specs.Lists.{all, gather, upFrom, upTo}
-use Rattle.schedule.specs.Alike.{sameLines}
+use Rattle.comparison.specs.Alike.{sameLines}
 use Rattle.schedule.specs.Format.{kindsIn, operandsIn}
 use Rattle.schedule.specs.Trace.{Line, lineIn}
 
 -- whose entry it is, by its kind and its operand
 abbrev pub partyIn : ℕ → ℕ → ℕ

@@ -5,12 +5,12 @@ use mathlib.Core.List.{List}
 use Prim.Native.Nat.{ℕ}
 use borrow.Author.Needs.{needs}
 use Rattle.terms.proofs.Laws.Tests.{known}
-use Rattle.schedule.specs.Types.{Accepted, Alike, FirstRefused, NotAlike, SecondRefused, Sizes}
-use Rattle.schedule.specs.Alike.{likeness, likenessOf, sameAnswers, sameSizes}
+use Rattle.comparison.specs.Types.{Accepted, Alike, FirstRefused, NotAlike, SecondRefused, Sizes}
+use Rattle.comparison.specs.Alike.{likeness, likenessOf, sameAnswers, sameSizes}
 use Rattle.schedule.specs.Reader.{readFile, refusalOf}
-use Rattle.schedule.proofs.Laws.Alike.{same-sizes}
-use Rattle.schedule.proofs.likeness.alike.Statement.{statement}
-use Rattle.schedule.proofs.likeness.alike.Tie as tie
+use Rattle.comparison.proofs.Laws.Alike.{same-sizes}
+use Rattle.comparison.proofs.likeness.alike.Statement.{statement}
+use Rattle.comparison.proofs.likeness.alike.Tie as tie
 
 -- two files that were read, by what was found of their sizes and their answers
 both-read : (first second : List ℕ) (s t : Sizes) (n m : ℕ) {sizes answers : Bool} → readFile first ≡ Accepted s n → readFile second ≡ Accepted t m

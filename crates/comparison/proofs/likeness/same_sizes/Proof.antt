@@ -1,7 +1,7 @@
 -- `same_sizes` meets its contract: the first pair that differs decides, and behind five equal pairs the last.
 use borrow.Author.Tests.{eq-eqb, ne-eqb}
-use Rattle.schedule.proofs.likeness.same_sizes.Statement.{statement}
-use Rattle.schedule.proofs.likeness.same_sizes.Tie as tie
+use Rattle.comparison.proofs.likeness.same_sizes.Statement.{statement}
+use Rattle.comparison.proofs.likeness.same_sizes.Tie as tie
 
 returns : tie.Need-returns
 returns c = rw (ne-eqb _ _ (c .if1 .taken))

@@ -2,9 +2,9 @@
 use mathlib.Core.Path.{sym, _∙_}
 use lib.Dec.{eqb}
 use borrow.Author.Needs.{needs}
-use Rattle.schedule.proofs.Laws.Comparison.{sameLine-differ, sameLine-values}
-use Rattle.schedule.proofs.likeness.same_line.Statement.{statement}
-use Rattle.schedule.proofs.likeness.same_line.Tie as tie
+use Rattle.comparison.proofs.Laws.Comparison.{sameLine-differ, sameLine-values}
+use Rattle.comparison.proofs.likeness.same_line.Statement.{statement}
+use Rattle.comparison.proofs.likeness.same_line.Tie as tie
 
 returns : tie.Need-returns
 returns c =

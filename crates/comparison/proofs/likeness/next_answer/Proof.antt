@@ -3,10 +3,10 @@ use mathlib.Core.Logic.{⊎-elim}
 use mathlib.Core.Path.{_≡_, refl, sym, _∙_}
 use Prim.Native.Nat.{_-_, _≤_}
 use native.Mathlib.Omega.{arith}
-use Rattle.schedule.specs.Comparison.{answered, firstFrom}
-use Rattle.schedule.proofs.Laws.Comparison.{answered-another, answered-for, answered-none, first-end, first-further, first-here}
-use Rattle.schedule.proofs.likeness.next_answer.Statement.{statement}
-use Rattle.schedule.proofs.likeness.next_answer.Tie as tie
+use Rattle.comparison.specs.Comparison.{answered, firstFrom}
+use Rattle.comparison.proofs.Laws.Comparison.{answered-another, answered-for, answered-none, first-end, first-further, first-here}
+use Rattle.comparison.proofs.likeness.next_answer.Statement.{statement}
+use Rattle.comparison.proofs.likeness.next_answer.Tie as tie
 
 abbrev Inv-loop : tie.InvT-loop
 Inv-loop party entries file trace from at₀ at =

@@ -6,11 +6,11 @@ use Prim.Native.Nat.{ℕ, _+_, _<_}
 use lib.Dec.{eqb}
 use Rattle.machine.specs.Lists.{all, upTo}
 use Rattle.terms.specs.Outcome.{isAnswer}
-use Rattle.schedule.specs.Types.{Accepted, Alike, BeginPut, BeginSteal, BeginTake, ClientStore, Drain, Entry, FirstRefused, Likeness, NotAlike, Outcome, Reading, SecondRefused, Sizes, ThiefStep, WorkerStep}
+use Rattle.comparison.specs.Types.{Accepted, Alike, BeginPut, BeginSteal, BeginTake, ClientStore, Drain, Entry, FirstRefused, Likeness, NotAlike, Outcome, Reading, SecondRefused, Sizes, ThiefStep, WorkerStep}
 use Rattle.schedule.specs.declared.reader.Reading.the-variants as reading
 use Rattle.schedule.specs.Reader.{readFile}
 use Rattle.schedule.specs.Run.{outcomesIn, scheduleIn}
 use Rattle.schedule.specs.Trace.{Line, lineOf}
 
 -- whose entry it is, counted: the worker is 0, and thief i is i + 1
 abbrev pub partyNumber : Entry → ℕ

@@ -4,9 +4,9 @@ use Prim.Native.Nat.{_-_, _<_, zero-le}
 use native.Mathlib.Nat.{le-of-eq}
 use native.Mathlib.Omega.{arith}
 use Rattle.terms.proofs.Laws.Tests.{denied, granted}
-use Rattle.schedule.proofs.Laws.Comparison.{Compared, compared-differ, compared-end, compared-fewer, compared-first, compared-next, next-not-before}
-use Rattle.schedule.proofs.likeness.same_for.Statement.{statement}
-use Rattle.schedule.proofs.likeness.same_for.Tie as tie
+use Rattle.comparison.proofs.Laws.Comparison.{Compared, compared-differ, compared-end, compared-fewer, compared-first, compared-next, next-not-before}
+use Rattle.comparison.proofs.likeness.same_for.Statement.{statement}
+use Rattle.comparison.proofs.likeness.same_for.Tie as tie
 
 abbrev Inv-loop : tie.InvT-loop
 Inv-loop party entries file trace others other other-trace at₀ there₀ at there = Compared party entries file trace others other other-trace at there

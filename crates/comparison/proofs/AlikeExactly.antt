@@ -5,10 +5,10 @@ use Prim.Native.Nat.{ℕ, _+_}
 use native.Mathlib.Omega.{arith}
 use Rattle.terms.proofs.Laws.Tests.{both-left, both-right}
 use Rattle.machine.proofs.Laws.Lists.{all-upTo}
-use Rattle.schedule.specs.Types.{Alike, NotAlike}
-use Rattle.schedule.specs.Alike.{AlikeExactly, Equals, answersOf, likeness, likenessOf, sameAnswers, sameLines, sameSizes}
-use Rattle.schedule.proofs.Laws.Comparison.{all-below}
-use Rattle.schedule.proofs.Laws.Alike.{equal-lines, equal-sizes, same-lines, same-sizes}
+use Rattle.comparison.specs.Types.{Alike, NotAlike}
+use Rattle.comparison.specs.Alike.{AlikeExactly, Equals, answersOf, likeness, likenessOf, sameAnswers, sameLines, sameSizes}
+use Rattle.comparison.proofs.Laws.Comparison.{all-below}
+use Rattle.comparison.proofs.Laws.Alike.{equal-lines, equal-sizes, same-lines, same-sizes}
 
 -- a choice that is Alike was made by a test that passed
 alike-test : (b : Bool) → cond b Alike NotAlike ≡ Alike → b ≡ true

@@ -1,17 +1,17 @@
 ghost use mathlib.Core.Path.{_≡_};
 ghost use Prim.Native.Nat.{_+_, _*_, _-_, _≤_, _<_};
 ghost use lib.ListN.{length};
-ghost use Rattle.schedule.specs.Alike.{likeness, sameAnswers, sameLine, sameSizes};
-ghost use Rattle.schedule.specs.Comparison.{answered, firstFrom, partyIn, sameFor, sameForAll};
+ghost use Rattle.comparison.specs.Alike.{likeness, sameAnswers, sameLine, sameSizes};
+ghost use Rattle.comparison.specs.Comparison.{answered, firstFrom, partyIn, sameFor, sameForAll};
 ghost use Rattle.schedule.specs.Reader.{readFile};
 ghost use Rattle.schedule.specs.Trace.{lineIn};
-ghost use Rattle.schedule.specs.Types.{Accepted};
-use crate::layout::SIZES_BYTES;
-use crate::reader::Reading;
-use crate::reader::read;
-use crate::reader::refusal_of;
-use crate::runner::obey_file;
+ghost use Rattle.comparison.specs.Types.{Accepted};
 use number::word_at;
+use schedule::Reading;
+use schedule::SIZES_BYTES;
+use schedule::read;
+use schedule::refusal_of;
+use schedule::run;
 use terms::Refusal;
 use terms::Sizes;
 
@@ -160,8 +160,8 @@ fn same_runs(sizes: Sizes, entries: usize, file: &[u8], others: usize, other: &[
 {
     let mut trace = [0; LONGEST_TRACE];
     let mut other_trace = [0; LONGEST_TRACE];
-    obey_file(file, sizes, entries, &mut trace);
-    obey_file(other, sizes, others, &mut other_trace);
+    run(file, &mut trace);
+    run(other, &mut other_trace);
     same_for_all(
         sizes.thieves,
         entries,

@@ -3,8 +3,8 @@ use mathlib.Core.Path.{sym}
 use borrow.Author.Needs.{needs}
 use borrow.Author.Tests.{le-ltb, lt-ltb}
 use Rattle.terms.proofs.Laws.Tests.{by-test}
-use Rattle.schedule.proofs.likeness.party_of.Statement.{statement}
-use Rattle.schedule.proofs.likeness.party_of.Tie as tie
+use Rattle.comparison.proofs.likeness.party_of.Statement.{statement}
+use Rattle.comparison.proofs.likeness.party_of.Tie as tie
 
 returns : tie.Need-returns
 returns c = sym (by-test 0 _ (lt-ltb _ 5 (c .if1 .taken)))

@@ -14,14 +14,14 @@ use Rattle.terms.proofs.Laws.Tests.{decide}
 use Rattle.machine.specs.Lists.{all, gather, upFrom, upTo}
 use Rattle.machine.proofs.Laws.Lists.{all-snoc, all-upTo}
 use Rattle.machine.proofs.Laws.Sums.{upTo-suc}
-use Rattle.schedule.specs.Alike.{sameLine, sameLines}
-use Rattle.schedule.specs.Comparison.{answered, firstFrom, linesFrom, partyIn, sameFor}
+use Rattle.comparison.specs.Alike.{sameLine, sameLines}
+use Rattle.comparison.specs.Comparison.{answered, firstFrom, linesFrom, partyIn, sameFor}
 use Rattle.schedule.specs.Format.{kindsIn, operandsIn}
 use Rattle.number.specs.Number.{ofBytes, wordAt}
 use Rattle.number.proofs.Laws.Words.{word-there}
 use Rattle.schedule.specs.Trace.{Line, lineIn}
 use Rattle.schedule.proofs.Laws.Format.{getD-words, kindsIn-part, operandsIn-words}
 use Rattle.schedule.proofs.Laws.Trace.{lineIn-number, lineIn-value}
 
 -- ── Where the bytes lie ─────────────────────────────────────────────────────────────────────────────────────────────────────
 

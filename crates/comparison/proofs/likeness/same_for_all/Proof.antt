@@ -5,10 +5,10 @@ use Prim.Native.Nat.{_+_, _-_, _≤_, _<_, zero-le}
 use native.Mathlib.Omega.{arith}
 use Rattle.terms.proofs.Laws.Tests.{denied, granted}
 use Rattle.machine.specs.Lists.{all, upTo}
-use Rattle.schedule.specs.Comparison.{sameFor}
-use Rattle.schedule.proofs.Laws.Comparison.{all-next, all-stops}
-use Rattle.schedule.proofs.likeness.same_for_all.Statement.{statement}
-use Rattle.schedule.proofs.likeness.same_for_all.Tie as tie
+use Rattle.comparison.specs.Comparison.{sameFor}
+use Rattle.comparison.proofs.Laws.Comparison.{all-next, all-stops}
+use Rattle.comparison.proofs.likeness.same_for_all.Statement.{statement}
+use Rattle.comparison.proofs.likeness.same_for_all.Tie as tie
 
 abbrev Inv-loop : tie.InvT-loop
 Inv-loop thieves entries file trace others other other-trace party₀ party =

@@ -1,0 +1,10 @@
+-- What the promise about alike schedules says. Names in quotation marks are places of the scope paper, 01. The files stand in reading order; `likeness` in `Alike` is what `alike` answers.
+--
+-- the types of the definitions          Types
+-- alike schedules                       Alike
+-- how two traces are compared           Comparison
+-- alike schedules, as a table           Pairs
+pub mod Types
+pub mod Alike
+pub mod Comparison
+pub mod Pairs
