@@ -7,7 +7,7 @@ use Rattle.terms.proofs.Laws.Tests.{both-left, both-right}
 use Rattle.machine.proofs.Laws.Lists.{all-upTo}
 use Rattle.comparison.specs.Types.{Alike, NotAlike}
 use Rattle.comparison.specs.Alike.{AlikeExactly, Equals, answersOf, likeness, likenessOf, sameAnswers, sameLines, sameSizes}
-use Rattle.comparison.proofs.Laws.Comparison.{all-below}
+use Rattle.machine.proofs.Laws.Lists.{all-below}
 use Rattle.comparison.proofs.Laws.Alike.{equal-lines, equal-sizes, same-lines, same-sizes}
 
 -- a choice that is Alike was made by a test that passed

@@ -9,10 +9,14 @@ use Rattle.machine.specs.Lists.{all}
 use Rattle.schedule.specs.Types.{Sizes}
 use Rattle.number.specs.Number.{littleEndian, ofBytes}
 
--- How many bytes each number of a file has, in the file's order: seven sizes of four, then a kind of one for each entry, then an
--- operand of four for each entry.
+-- Two parallel arrays, as a file and a trace have them: how many bytes each number has, one for each entry in the first array, then four for each
+-- entry in the second.
+abbrev pub arrays : ℕ → List ℕ
+arrays entries = replicate entries 1 ++ replicate entries 4
+
+-- How many bytes each number of a file has, in the file's order: seven sizes of four, then the kinds and the operands.
 abbrev pub layout : ℕ → List ℕ
-layout entries = replicate 7 4 ++ (replicate entries 1 ++ replicate entries 4)
+layout entries = replicate 7 4 ++ arrays entries
 
 -- how many bytes a file of so many entries has
 abbrev pub fileLength : ℕ → ℕ

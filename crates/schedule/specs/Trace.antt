@@ -2,14 +2,14 @@
 use mathlib.Core.Path.{_≡_}
 use mathlib.Core.List.{List, _∷_, _++_, map}
 use Prim.Native.Nat.{ℕ, _+_, _*_}
-use lib.ListN.{length, getD, replicate}
+use lib.ListN.{length, getD}
 use Rattle.terms.specs.Outcome.{numberOf, valueOf}
 use Rattle.schedule.specs.Types.{Outcome}
-use Rattle.schedule.specs.Format.{decode, encode}
+use Rattle.schedule.specs.Format.{arrays, decode, encode}
 
--- How many bytes each number of a trace has, in the trace's order: the number of entries four, then an outcome of one for each entry, then a value of four for each entry.
+-- How many bytes each number of a trace has, in the trace's order: the number of entries four, then the outcomes and the values.
 abbrev pub traceLayout : ℕ → List ℕ
-traceLayout entries = 4 ∷ (replicate entries 1 ++ replicate entries 4)
+traceLayout entries = 4 ∷ arrays entries
 
 -- how many bytes the trace of so many entries has
 abbrev pub traceLength : ℕ → ℕ

@@ -45,22 +45,22 @@ one-before : {A : Type 0} (b : Bool) (x : A) (l : List A) → cond b (x ∷ []) 
 one-before true x l = refl
 one-before false x l = refl
 
-module _ (party n : ℕ) (file trace : List ℕ) where
-  -- what file and trace tell of a place: the kind and the operand of an entry, and the line of an outcome
-  abbrev Told : ℕ → Entry → Outcome → Type 0
-  Told at e o = (getD (kindsIn n file) at 0 ≡ kindOf e) × (getD (operandsIn n file) at 0 ≡ operandOf e) × (lineIn n trace at ≡ lineOf o)
+-- what a file of n entries and a trace tell of a place: the kind and the operand of an entry, and the line of an outcome
+abbrev pub Told : ℕ → List ℕ → List ℕ → ℕ → Entry → Outcome → Type 0
+Told n file trace at e o = (getD (kindsIn n file) at 0 ≡ kindOf e) × (getD (operandsIn n file) at 0 ≡ operandOf e) × (lineIn n trace at ≡ lineOf o)
 
+module _ (party n : ℕ) (file trace : List ℕ) where
   abbrev answer-at : ℕ → List Line
   answer-at i = cond (answered party n file trace i) (lineIn n trace i ∷ []) []
 
-  answered-told : (at : ℕ) (e : Entry) (o : Outcome) → Told at e o → answered party n file trace at ≡ (isAnswer o && eqb (partyNumber e) party)
+  answered-told : (at : ℕ) (e : Entry) (o : Outcome) → Told n file trace at e o → answered party n file trace at ≡ (isAnswer o && eqb (partyNumber e) party)
   answered-told at e o told =
       (λ i. leb 16 (told .2 i .number) && eqb (partyIn (told .0 i) (told .1 i)) party)
       ∙ ap (λ k. isAnswer o && eqb k party) (party-of-entry e)
 
   -- from a place on, where the entries and the outcomes from there on are told
   answers-from : (es : List Entry) (os : List Outcome) (at : ℕ) → length es ≡ length os
-      → ((i k : ℕ) → k ≡ at + i → i < length es → Told k (getD es i Drain) (getD os i Moved))
+      → ((i k : ℕ) → k ≡ at + i → i < length es → Told n file trace k (getD es i Drain) (getD os i Moved))
       → gather answer-at (upFrom at (length es)) ≡ answersFor party es os
   answers-from [] os at long each = refl
   answers-from (e ∷ es) [] at long each = absurd (suc-ne-zero (length es) long)
@@ -72,14 +72,13 @@ module _ (party n : ℕ) (file trace : List ℕ) where
 
 -- the lines that are compared are the party's answers, where file and trace tell the entries and the outcomes
 pub lines-of-run : (party n : ℕ) (file : List ℕ) (es : List Entry) (os : List Outcome) (trace : List ℕ) → length es ≡ n → length os ≡ n
-    → ((at : ℕ) → at < n
-    → (getD (kindsIn n file) at 0 ≡ kindOf (getD es at Drain)) × (getD (operandsIn n file) at 0 ≡ operandOf (getD es at Drain)) × (lineIn n trace at ≡ lineOf (getD os at Moved)))
+    → ((at : ℕ) → at < n → Told n file trace at (getD es at Drain) (getD os at Moved))
     → linesFrom party n file trace 0 ≡ answersFor party es os
 lines-of-run party n file es os trace long other-long each =
     let whole : n - 0 ≡ length es = omega arith in
     ap (λ k. gather (answer-at party n file trace) (upFrom 0 k)) whole
     ∙ answers-from party n file trace es os 0 (long ∙ sym other-long)
-    (λ i k p h. let same : k ≡ i = omega arith in subst (λ j. Told party n file trace j (getD es i Drain) (getD os i Moved)) (sym same) (each i (omega arith)))
+    (λ i k p h. let same : k ≡ i = omega arith in subst (λ j. Told n file trace j (getD es i Drain) (getD os i Moved)) (sym same) (each i (omega arith)))
 
 -- .. as an accepted file and the trace of its run do
 pub lines-of-file : (file l : List ℕ) (s : Sizes) (n : ℕ) → readFile file ≡ Accepted s n → allBelow 256 file ≡ true
@@ -97,7 +96,7 @@ lines-of-file file l s n accepted bytes party =
     as-many = length-outcomesOf (fresh (sizesIn file)) (scheduleIn file) ∙ many
 
     told : (at : ℕ) → at < entriesIn file
-        → Told party (entriesIn file) file (overwritten 0 (traceOf (outcomesIn file)) l) at (getD (scheduleIn file) at Drain) (getD (outcomesIn file) at Moved)
+        → Told (entriesIn file) file (overwritten 0 (traceOf (outcomesIn file)) l) at (getD (scheduleIn file) at Drain) (getD (outcomesIn file) at Moved)
     told at there =
         let n = entriesIn file in
         let thieves = sizesIn file .thieves in

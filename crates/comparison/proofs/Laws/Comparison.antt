@@ -248,23 +248,3 @@ module _ (party n : ℕ) (file trace : List ℕ) (m : ℕ) (other other-trace : 
             let apart = eqb-false there m e in
             let before : there < m = omega (arith, so-far .other-rests .0) in
             λ i. sameLines (lines-end party n file trace at h i) (lines-answer party m other other-trace there (so-far .other-rests) before i)
-
--- ── A test of every number below a bound ────────────────────────────────────────────────────────────────────────────────────
-
-module _ (f : ℕ → Bool) where
-  -- a loop's turn: one number more has passed, or it is the one that fails
-
-  pub all-next : (n : ℕ) → all f (upTo n) ≡ true → f n ≡ true → all f (upTo (n + 1)) ≡ true
-  all-next n e p = ap (all f) (upTo-suc n) ∙ all-snoc f (upTo n) n ∙ (λ i. e i && p i)
-
-  pub all-stops : (n i : ℕ) → i < n → f i ≡ false → all f (upTo n) ≡ false
-  all-stops n i h e = go (all f (upTo n)) refl
-    where
-      go : (b : Bool) → all f (upTo n) ≡ b → b ≡ false
-      go true p = absurd (false≢true (sym e ∙ all-upTo f n i p h))
-      go false p = refl
-
-  -- where each passes, all do
-  pub all-below : (n : ℕ) → ((i : ℕ) → i < n → f i ≡ true) → all f (upTo n) ≡ true
-  all-below zero each = refl
-  all-below (suc n) each = rw add-one at (all-next n (all-below n (λ i h. each i (omega arith))) (each n (omega arith)))

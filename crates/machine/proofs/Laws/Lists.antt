@@ -1,9 +1,9 @@
 -- Laws of tests over a list, and of lists whose elements are all replaced by a function.
 use mathlib.Core.Path.{_≡_, refl, ap, sym, _∙_}
-use mathlib.Core.Bool.{Bool, true, false, cond, _&&_}
+use mathlib.Core.Bool.{Bool, true, false, cond, _&&_, false≢true}
 use mathlib.Core.List.{List, [], _∷_, _++_, foldl, foldl-append, map}
 use Prim.Native.Nat.{ℕ, zero, suc, _+_, _≤_, _<_}
-use native.Mathlib.Nat.{le-of-suc-le-suc, not-suc-le-zero}
+use native.Mathlib.Nat.{add-zero, le-of-suc-le-suc, not-suc-le-zero}
 use native.Mathlib.Numerals.{add-one, one-add}
 use lib.Dec.{eqb}
 use native.Mathlib.Omega.{arith}
@@ -11,7 +11,8 @@ use lib.ListN.{length, getD, take, drop, set, replicate, length-drop}
 use lib.Seq.{append-snoc, drop-cons, getD-append-add, getD-drop, getD-set-other, getD-set-same, length-take-le, set-at, take-all, take-nil, take-suc}
 use borrow.Author.Tests.{eqb-false, eqb-true}
 use Rattle.terms.proofs.Laws.Tests.{both-left, both-right}
-use Rattle.machine.specs.Lists.{all, upFrom, upTo}
+use Rattle.machine.specs.Lists.{all, gather, upFrom, upTo}
+use Rattle.machine.proofs.Laws.Sums.{upTo-suc}
 
 &&-assoc : (a b c : Bool) → (a && (b && c)) ≡ (a && b && c)
 &&-assoc true b c = refl
@@ -46,6 +47,11 @@ module _ {A : Type 0} (f : A → Bool) where
   all-each [] d each = refl
   all-each (x ∷ l) d each = rw (each 0) (all-each l d (λ i. each (suc i)))
 
+-- a test that two lists pass, the one behind the other passes
+pub all-behind : {A : Type 0} (f : A → Bool) (s t : List A) → all f s ≡ true → all f t ≡ true → all f (s ++ t) ≡ true
+all-behind f [] t p q = q
+all-behind f (x ∷ s) t p q = rw (both-left (f x) (all f s) p) (all-behind f s t (both-right (f x) (all f s) p) q)
+
 -- a test that all numbers below a bound passed, each of them passed
 all-upFrom : (f : ℕ → Bool) (j n i : ℕ) → all f (upFrom j n) ≡ true → i < n → f (j + i) ≡ true
 all-upFrom f j zero i p h = absurd (not-suc-le-zero h)
@@ -55,9 +61,38 @@ all-upFrom f j (suc n) (suc i) p h = ap f (omega arith) ∙ all-upFrom f (suc j)
 pub all-upTo : (f : ℕ → Bool) (n i : ℕ) → all f (upTo n) ≡ true → i < n → f i ≡ true
 all-upTo f n i p h = ap f (omega arith) ∙ all-upFrom f 0 n i p h
 
+-- a test of every number below a bound
+module _ (f : ℕ → Bool) where
+  -- a loop's turn: one number more has passed, or it is the one that fails
+
+  pub all-next : (n : ℕ) → all f (upTo n) ≡ true → f n ≡ true → all f (upTo (n + 1)) ≡ true
+  all-next n e p = ap (all f) (upTo-suc n) ∙ all-snoc f (upTo n) n ∙ (λ i. e i && p i)
+
+  pub all-stops : (n i : ℕ) → i < n → f i ≡ false → all f (upTo n) ≡ false
+  all-stops n i h e = go (all f (upTo n)) refl
+    where
+      go : (b : Bool) → all f (upTo n) ≡ b → b ≡ false
+      go true p = absurd (false≢true (sym e ∙ all-upTo f n i p h))
+      go false p = refl
+
+  -- where each passes, all do
+  pub all-below : (n : ℕ) → ((i : ℕ) → i < n → f i ≡ true) → all f (upTo n) ≡ true
+  all-below zero each = refl
+  all-below (suc n) each = rw add-one at (all-next n (all-below n (λ i h. each i (omega arith))) (each n (omega arith)))
+
 -- a loop's turn: one element more has been gone through
 pub foldl-more : {A B : Type 0} (f : B → A → B) (v : B) (l : List A) (i : ℕ) (d : A) → i < length l → foldl f v (take (i + 1) l) ≡ f (foldl f v (take i l)) (getD l i d)
 foldl-more f v l i d h = rw (add-one, take-suc l i d) (foldl-append f v (take i l) (getD l i d ∷ []))
+
+-- what is gathered by the places of a list's elements is gathered by the elements
+pub gather-places : {A B : Type 0} (f : ℕ → List B) (g : A → List B) (d : A) (l : List A) (k : ℕ)
+    → ((i : ℕ) → i < length l → f (k + i) ≡ g (getD l i d)) → gather f (upFrom k (length l)) ≡ gather g l
+gather-places f g d [] k same = refl
+gather-places f g d (x ∷ l) k same =
+    let first : f k ≡ g x = ap f (sym (add-zero k)) ∙ same 0 (omega arith) in
+    let next : (i : ℕ) → suc k + i ≡ k + suc i = λ i. omega arith in
+    let others = gather-places f g d l (suc k) (λ i there. ap f (next i) ∙ same (suc i) (omega arith)) in
+    λ i. first i ++ others i
 
 -- a list taken to its end and past it is the whole list, however far
 pub take-whole : {A : Type 0} (l : List A) (i j : ℕ) → length l ≤ i → length l ≤ j → take i l ≡ take j l

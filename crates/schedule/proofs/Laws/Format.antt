@@ -110,6 +110,14 @@ encode-bytes (b ∷ l) below =
     rw (mod-eq-of-lt (ltb-true b 256 (both-left (ltb b 256) (allBelow 256 l) below)))
     (ap (λ r. b ∷ r) (encode-bytes l (both-right (ltb b 256) (allBelow 256 l) below)))
 
+-- a number of one byte, of several, is the byte
+pub getD-bytes : (n i : ℕ) (bs : List ℕ) → i < n → getD (decode (replicate n 1) bs) i 0 ≡ getD bs i 0
+getD-bytes zero i bs h = absurd (not-suc-le-zero h)
+getD-bytes (suc n) zero [] h = refl
+getD-bytes (suc n) zero (b ∷ bs) h = add-zero b
+getD-bytes (suc n) (suc i) [] h = getD-bytes n i [] (le-of-suc-le-suc h)
+getD-bytes (suc n) (suc i) (b ∷ bs) h = getD-bytes n i bs (le-of-suc-le-suc h)
+
 -- a number of four bytes, of several
 pub getD-words : (n i : ℕ) (bs : List ℕ) → i < n → getD (decode (replicate n 4) bs) i 0 ≡ ofBytes (take 4 (drop (4 * i) bs))
 getD-words zero i bs h = absurd (not-suc-le-zero h)

@@ -20,7 +20,7 @@ use Rattle.machine.specs.Lists.{all, gather, upTo}
 use Rattle.machine.specs.Machine.{fresh}
 use Rattle.machine.specs.Obey.{machineAfter, obey, outcomesOf}
 use Rattle.machine.specs.Renumbering.{renumberEntry, renumberOutcome}
-use Rattle.machine.proofs.Laws.Lists.{all-getD}
+use Rattle.machine.proofs.Laws.Lists.{all-behind, all-getD}
 use Rattle.machine.proofs.Laws.Sums.{gather-append, upTo-suc}
 use Rattle.machine.proofs.Renumbering.{blind-to-numbers}
 use Rattle.schedule.specs.Types.{BeginPut, BeginSteal, BeginTake, ClientStore, Drain, Entry, Refusal, ThiefStep, WorkerStep}
@@ -176,11 +176,6 @@ pub values-fit : (s : Sizes) (es : List Entry) → ((at x : ℕ) → getD es at 
 values-fit s es fits =
     let same = ap (outcomesOf (fresh s)) (sym (low-entries es fits)) ∙ blind-to-numbers low refl s es in
     ap (λ os. allBelow 4294967296 (map valueOf os)) same ∙ low-values (outcomesOf (fresh s) es)
-
--- a test that two lists pass, the one behind the other passes
-all-behind : {A : Type 0} (f : A → Bool) (s t : List A) → all f s ≡ true → all f t ≡ true → all f (s ++ t) ≡ true
-all-behind f [] t p q = q
-all-behind f (x ∷ s) t p q = rw (both-left (f x) (all f s) p) (all-behind f s t (both-right (f x) (all f s) p) q)
 
 -- the entries of two arrays have no other operands than these
 abbrev fitting-operand : Entry → Bool

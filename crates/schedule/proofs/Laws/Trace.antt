@@ -2,23 +2,23 @@
 use mathlib.Core.Path.{_≡_, refl, ap, sym, _∙_}
 use mathlib.Core.Bool.{true}
 use mathlib.Core.List.{List, [], _∷_, _++_, append-assoc, map, map-append}
-use Prim.Native.Nat.{ℕ, zero, suc, _+_, _*_, _≤_, _<_, zero-le}
-use native.Mathlib.Nat.{add-zero, le-of-suc-le-suc, not-suc-le-zero, zero-add}
+use Prim.Native.Nat.{ℕ, _+_, _*_, _≤_, _<_, zero-le}
+use native.Mathlib.Nat.{zero-add}
 use native.Mathlib.Omega.{arith}
 use lib.ListN.{length, drop, getD, length-append, length-map, length-replicate, List·getD-append, List·getD-map, replicate, take}
 use lib.Seq.{drop-drop, getD-append-add, getD-drop}
 use Rattle.terms.specs.Outcome.{numberOf, valueOf}
 use Rattle.terms.specs.declared.outcome.Outcome.the-variants.{Moved, Place, Early, Wait, Stored, Task, Empty, Abort, Full, End}
-use Rattle.machine.specs.Lists.{gather, upFrom}
+use Rattle.machine.specs.Lists.{gather}
+use Rattle.machine.proofs.Laws.Lists.{gather-places}
 use Rattle.schedule.specs.Types.{Outcome}
 use Rattle.number.specs.Number.{littleEndian, ofBytes, overwritten, wordAt}
-use Rattle.schedule.specs.Format.{allBelow}
-use Rattle.schedule.specs.Format.{decode, encode, wordBytes}
+use Rattle.schedule.specs.Format.{allBelow, decode, encode, wordBytes}
 use Rattle.schedule.specs.Trace.{TraceLength, lineIn, lineOf, traceLayout, traceOf}
 use Rattle.schedule.specs.Demand3.{answerIn, answersIn}
 use Rattle.number.proofs.Laws.Number.{length-littleEndian}
 use Rattle.schedule.proofs.Laws.Format.{decode-append, decode-encode, encode-append, encode-bytes, fitting, fitting-append, fitting-replicate}
-use Rattle.schedule.proofs.Laws.Format.{getD-words, length-decode, length-wordBytes, total, total-replicate}
+use Rattle.schedule.proofs.Laws.Format.{getD-bytes, getD-words, length-decode, length-wordBytes, total, total-replicate}
 use Rattle.number.proofs.Laws.Words.{word-there}
 use Rattle.number.proofs.Laws.Overwritten.{length-overwritten, overwritten-apart, overwritten-behind, overwritten-nothing}
 use Rattle.schedule.proofs.Laws.Words.{wordBytes-append}
@@ -128,14 +128,6 @@ traceSoFar-all os l room =
 
 -- ── What stands in a trace ──────────────────────────────────────────────────────────────────────────────────────────────────
 
--- a number of one byte, of several, is the byte
-getD-bytes : (n i : ℕ) (bs : List ℕ) → i < n → getD (decode (replicate n 1) bs) i 0 ≡ getD bs i 0
-getD-bytes zero i bs h = absurd (not-suc-le-zero h)
-getD-bytes (suc n) zero [] h = refl
-getD-bytes (suc n) zero (b ∷ bs) h = add-zero b
-getD-bytes (suc n) (suc i) [] h = getD-bytes n i [] (le-of-suc-le-suc h)
-getD-bytes (suc n) (suc i) (b ∷ bs) h = getD-bytes n i bs (le-of-suc-le-suc h)
-
 module _ (n : ℕ) (trace : List ℕ) where
   -- the numbers of one byte in a trace, and those of four
   abbrev bytes : List ℕ
@@ -212,16 +204,6 @@ lineIn-written os l at words there =
     ∙ getD-append-add numbers values at 0
     ∙ List·getD-map valueOf os at Moved in
     λ i. record { number = number i; value = value i }
-
--- what is gathered by the places of a list's elements is gathered by the elements
-gather-places : {A B : Type 0} (f : ℕ → List B) (g : A → List B) (d : A) (l : List A) (k : ℕ)
-    → ((i : ℕ) → i < length l → f (k + i) ≡ g (getD l i d)) → gather f (upFrom k (length l)) ≡ gather g l
-gather-places f g d [] k same = refl
-gather-places f g d (x ∷ l) k same =
-    let first : f k ≡ g x = ap f (sym (add-zero k)) ∙ same 0 (omega arith) in
-    let next : (i : ℕ) → suc k + i ≡ k + suc i = λ i. omega arith in
-    let others = gather-places f g d l (suc k) (λ i there. ap f (next i) ∙ same (suc i) (omega arith)) in
-    λ i. first i ++ others i
 
 -- .. and the answers are those among the outcomes
 pub answersIn-written : (os : List Outcome) (l : List ℕ) → allBelow 4294967296 (map valueOf os) ≡ true

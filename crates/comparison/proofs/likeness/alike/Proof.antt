@@ -12,12 +12,6 @@ use Rattle.comparison.proofs.Laws.Alike.{same-sizes}
 use Rattle.comparison.proofs.likeness.alike.Statement.{statement}
 use Rattle.comparison.proofs.likeness.alike.Tie as tie
 
--- two files that were read, by what was found of their sizes and their answers
-both-read : (first second : List ℕ) (s t : Sizes) (n m : ℕ) {sizes answers : Bool} → readFile first ≡ Accepted s n → readFile second ≡ Accepted t m
-    → sameSizes s t ≡ sizes → sameAnswers (s .thieves) first second ≡ answers → cond (sizes && answers) Alike NotAlike ≡ likeness first second
-both-read first second s t n m one other sizes answers =
-    sym ((λ i. likenessOf first second (one i) (other i)) ∙ (λ i. cond (sizes i && answers i) Alike NotAlike))
-
 returns : tie.Need-returns
 returns c =
     let asked = c .before .before .before in
@@ -45,32 +39,28 @@ same-runs-requires c κs =
     let told = known (other .before .before .read2 .ensures) (other .other .given .1) in
     (one, told ∙ ap (λ s. Accepted s (other .other .given .0 .1 .0)) (sym (same-sizes _ _ (known (sized .same-sizes .ensures) (c .if1 .taken)))))
 
-returns-3 : tie.Need-returns-3
-returns-3 c =
-    let sized = c .before .before .before in
-    let other = sized .before .before in
+-- Both files were read, and their sizes compared: what was found of sizes and answers decides.
+decided : (c : tie.After-same-sizes) {sizes answers : Bool}
+    → let opened = c .before .before .before .before .before .before in
+    let a = opened .before .before .before .before .before .args in
+    c .same-sizes .result ≡ sizes → sameAnswers (opened .reading .given .0 .0 .thieves) (a .first .now) (a .second .now) ≡ answers
+    → cond (sizes && answers) Alike NotAlike ≡ likeness (a .first .now) (a .second .now)
+decided c sizes answers =
+    let other = c .before .before in
     let opened = other .before .before .before .before in
     let a = opened .before .before .before .before .before .args in
-    both-read (a .first .now) (a .second .now) _ _ _ _ (known (opened .before .before .read .ensures) (opened .reading .given .1)) (known (other .before .before .read2 .ensures) (other .other .given .1))
-    (known (sized .same-sizes .ensures) (c .before .before .if1 .taken)) (known (c .before .same-runs .ensures) (c .if2 .taken))
+    let one = known (opened .before .before .read .ensures) (opened .reading .given .1) in
+    let told = known (other .before .before .read2 .ensures) (other .other .given .1) in
+    sym ((λ i. likenessOf (a .first .now) (a .second .now) (one i) (told i)) ∙ (λ i. cond (known (c .same-sizes .ensures) sizes i && answers i) Alike NotAlike))
+
+returns-3 : tie.Need-returns-3
+returns-3 c = decided (c .before .before .before) (c .before .before .if1 .taken) (known (c .before .same-runs .ensures) (c .if2 .taken))
 
 returns-4 : tie.Need-returns-4
-returns-4 c =
-    let sized = c .before .before .before in
-    let other = sized .before .before in
-    let opened = other .before .before .before .before in
-    let a = opened .before .before .before .before .before .args in
-    both-read (a .first .now) (a .second .now) _ _ _ _ (known (opened .before .before .read .ensures) (opened .reading .given .1)) (known (other .before .before .read2 .ensures) (other .other .given .1))
-    (known (sized .same-sizes .ensures) (c .before .before .if1 .taken)) (known (c .before .same-runs .ensures) (c .if2 .left))
+returns-4 c = decided (c .before .before .before) (c .before .before .if1 .taken) (known (c .before .same-runs .ensures) (c .if2 .left))
 
 returns-5 : tie.Need-returns-5
-returns-5 c =
-    let sized = c .before in
-    let other = sized .before .before in
-    let opened = other .before .before .before .before in
-    let a = opened .before .before .before .before .before .args in
-    both-read (a .first .now) (a .second .now) _ _ _ _ (known (opened .before .before .read .ensures) (opened .reading .given .1)) (known (other .before .before .read2 .ensures) (other .other .given .1))
-    (known (sized .same-sizes .ensures) (c .if1 .left)) refl
+returns-5 c = decided (c .before) (c .if1 .left) refl
 
 pub alike-spec : {M : Type 1} → statement M
 alike-spec =

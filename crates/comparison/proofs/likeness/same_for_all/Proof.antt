@@ -6,7 +6,7 @@ use native.Mathlib.Omega.{arith}
 use Rattle.terms.proofs.Laws.Tests.{denied, granted}
 use Rattle.machine.specs.Lists.{all, upTo}
 use Rattle.comparison.specs.Comparison.{sameFor}
-use Rattle.comparison.proofs.Laws.Comparison.{all-next, all-stops}
+use Rattle.machine.proofs.Laws.Lists.{all-next, all-stops}
 use Rattle.comparison.proofs.likeness.same_for_all.Statement.{statement}
 use Rattle.comparison.proofs.likeness.same_for_all.Tie as tie
 
