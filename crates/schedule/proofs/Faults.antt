@@ -1,4 +1,4 @@
--- What is refused has the fault that is told, and what has a fault is refused: by the reader, by the writer, and where a file is run.
+-- What is refused has the fault that is told, and what has a fault is refused: by the reader, and where a file is run.
 use mathlib.Core.Path.{_≡_, refl, ap, sym, _∙_}
 use mathlib.Core.Bool.{Bool, true, false, cond, not, _&&_, _||_, false≢true}
 use mathlib.Core.List.{List}
@@ -6,24 +6,21 @@ use Prim.Native.Nat.{ℕ, zero, suc, _+_, _*_, _≤_, _<_}
 use native.Mathlib.Omega.{arith}
 use lib.Dec.{eqb, leb, ltb}
 use lib.ListN.{getD, length}
-use borrow.Author.Tests.{eq-eqb, le-leb, le-ltb, lt-ltb, ltb-false, ltb-true, ne-eqb}
-use Rattle.schedule.specs.Types.{Accepted, Check, Failed, Kind, Passed, Ran, Reading, Refusal, Room, Short, Size, Sizes, Tally, Who, Written}
+use borrow.Author.Tests.{eq-eqb, le-leb, le-ltb, lt-ltb, ltb-false, ltb-true}
+use Rattle.schedule.specs.Types.{Accepted, Failed, Kind, Passed, Ran, Reading, Refusal, Room, Short, Size, Sizes, Tally, Who}
 use Rattle.schedule.specs.declared.reader.Reading.the-variants as reading
 use Rattle.schedule.specs.declared.runner.Running.the-variants as running
-use Rattle.schedule.specs.declared.writer.Writing.the-variants as writing
 use Rattle.schedule.specs.Check.{checkRanges}
 use Rattle.schedule.specs.Entries.{checkEntries, checkOf, entryAt}
-use Rattle.schedule.specs.Faults.{ReaderRefusesFaults, RefusedRunUntouched, RefusedUntouched, RunnerRefusesFaults, WriterRefusesFaults}
-use Rattle.schedule.specs.Faults.{faultsOf, fileHas, hasFault, operandAllowed, runHas, writingHas}
-use Rattle.schedule.specs.Format.{entriesIn, fileOf, kindsIn, operandsIn, sizesIn}
+use Rattle.schedule.specs.Faults.{ReaderRefusesFaults, RefusedRunUntouched, RunnerRefusesFaults}
+use Rattle.schedule.specs.Faults.{faultsOf, fileHas, hasFault, operandAllowed, runHas}
+use Rattle.schedule.specs.Format.{entriesIn, kindsIn, operandsIn, sizesIn}
 use Rattle.schedule.specs.Reader as reader
 use Rattle.schedule.specs.Run.{outcomesIn, runningOf, traceIf}
 use Rattle.schedule.specs.Totals.{tallyOf}
 use Rattle.schedule.specs.Trace.{traceLength, traceOf}
-use Rattle.schedule.specs.Writer as writer
 use Rattle.schedule.proofs.Laws.Reader.{accepted-readable, refused-reading}
 use Rattle.schedule.proofs.Laws.Run.{not-both-run}
-use Rattle.schedule.proofs.Laws.Writer.{not-both-written, refused-writing, written-writable}
 use Rattle.schedule.proofs.Laws.Check.{failIf-failed, not-both}
 use Rattle.schedule.proofs.Laws.Check.{ranges-failed, ranges-passed, upTo-failed}
 use Rattle.schedule.proofs.Laws.Entries.{entries-passed, entry-passed, entryAt-check}
@@ -33,7 +30,7 @@ use Rattle.schedule.proofs.Laws.Format.{length-kindsIn, length-operands
 
 module _ (s : Sizes) (entries : ℕ) (kinds operands : List ℕ) (long : length kinds ≡ entries) (wrongLength noRoom : Bool) where
   -- what the check of the sizes tells is a fault of the sizes
-  ranges-fault : (r : Refusal) → checkRanges s entries ≡ Failed r → hasFault s entries kinds operands wrongLength noRoom r ≡ true
+  pub ranges-fault : (r : Refusal) → checkRanges s entries ≡ Failed r → hasFault s entries kinds operands wrongLength noRoom r ≡ true
   ranges-fault r e = let found = ranges-failed s entries r e in rw (found .1 .0, found .1 .1)
 
   -- what the check of an entry tells is a fault of this entry, or that the operands end before it
@@ -57,14 +54,14 @@ module _ (s : Sizes) (entries : ℕ) (kinds operands : List ℕ) (long : length 
       go false past allowed t p a told =
           let same : r ≡ Short = cc in rw same (ends at inside (ltb-false at (length operands) t))
 
-  entries-fault : (r : Refusal) → ((at : ℕ) → at < length kinds → length operands ≤ at → wrongLength ≡ true)
+  pub entries-fault : (r : Refusal) → ((at : ℕ) → at < length kinds → length operands ≤ at → wrongLength ≡ true)
       → checkEntries (s .thieves) kinds operands ≡ Failed r → hasFault s entries kinds operands wrongLength noRoom r ≡ true
   entries-fault r ends e =
       let found = upTo-failed (λ at. checkOf (entryAt (s .thieves) kinds operands at)) (length kinds) r e in
       entry-fault r ends (found .0) (found .1 .0) (found .1 .1)
 
   -- what passed every check has no fault
-  no-fault : checkRanges s entries ≡ Passed → wrongLength ≡ false → checkEntries (s .thieves) kinds operands ≡ Passed → noRoom ≡ false
+  pub no-fault : checkRanges s entries ≡ Passed → wrongLength ≡ false → checkEntries (s .thieves) kinds operands ≡ Passed → noRoom ≡ false
       → (r : Refusal) → hasFault s entries kinds operands wrongLength noRoom r ≡ false
   no-fault ranges as-long each room (Size place) = rw (ranges-passed s entries ranges place)
   no-fault ranges as-long each room Short = as-long
@@ -129,41 +126,6 @@ reader-refuses-faults file r = (refused, accepted)
         let as-long = or-neither there (ap not (eq-eqb (length file) (28 + 5 * n) (p .long))) in
         no-fault (sizesIn file) n (kindsIn n file) (operandsIn n file) (length-kindsIn n file) (wrong file) false
         (p .ranges) as-long (p .each) refl r
-
--- ── The writer ──────────────────────────────────────────────────────────────────────────────────────────────────────────────
-
-module _ (s : Sizes) (kinds operands : List ℕ) (room : ℕ) (r : Refusal) where
-  -- whatever a check failed with is a fault that there is
-  writing-fault : (i : ℕ) → getD (writer.writingChecks s kinds operands room) i Passed ≡ Failed r → writingHas s kinds operands room r ≡ true
-  writing-fault zero e =
-      ranges-fault s (length kinds) kinds operands refl (not (eqb (length kinds) (length operands))) (ltb room (28 + 5 * length kinds)) r e
-  writing-fault (suc zero) e =
-      let found = failIf-failed (not (eqb (length kinds) (length operands))) Short e in rw (found .1) (found .0)
-  writing-fault (suc (suc zero)) e =
-      entries-fault s (length kinds) kinds operands refl (not (eqb (length kinds) (length operands))) (ltb room (28 + 5 * length kinds)) r
-      (λ at inside ends. ap not (ne-eqb (length kinds) (length operands) (λ same. omega arith))) e
-  writing-fault (suc (suc (suc zero))) e =
-      let found = failIf-failed (ltb room (28 + 5 * length kinds)) Room e in rw (found .1) (found .0)
-  writing-fault (suc (suc (suc (suc i)))) e = absurd (not-both (sym e))
-
-pub writer-refuses-faults : WriterRefusesFaults
-writer-refuses-faults s kinds operands room r = (refused, written)
-  where
-    refused : writer.writeFile s kinds operands room ≡ writing.Refused r → writingHas s kinds operands room r ≡ true
-    refused e = let found = refused-writing s kinds operands room r e in writing-fault s kinds operands room r (found .0) (found .1)
-
-    written : (n : ℕ) → writer.writeFile s kinds operands room ≡ Written n → writingHas s kinds operands room r ≡ false
-    written n e =
-        let p = written-writable s kinds operands room n e .1 in
-        no-fault s (length kinds) kinds operands refl (not (eqb (length kinds) (length operands))) (ltb room (28 + 5 * length kinds))
-        (p .ranges) (ap not (eq-eqb (length kinds) (length operands) (p .parallel))) (p .each) (le-ltb room (28 + 5 * length kinds) (p .fits)) r
-
-pub refused-untouched : RefusedUntouched
-refused-untouched s kinds operands buffer r e = go (writer.checkWriting s kinds operands (length buffer)) e
-  where
-    go : (c : Check) → writer.writingOf (28 + 5 * length kinds) c ≡ writing.Refused r → writer.bufferIf (fileOf s kinds operands) buffer c ≡ buffer
-    go Passed told = absurd (not-both-written told)
-    go (Failed q) told = refl
 
 -- ── Running ─────────────────────────────────────────────────────────────────────────────────────────────────────────────────
 

@@ -4,7 +4,6 @@ pub mod Words
 pub mod Check
 pub mod Entries
 pub mod Reader
-pub mod Writer
 pub mod Trace
 pub mod Run
 pub mod Obeyed

@@ -9,15 +9,13 @@ use Rattle.terms.specs.declared.kinds.Meaning.the-variants as meaning
 use Rattle.terms.specs.Refusal.{numberOf, placeOf}
 use Rattle.terms.specs.Kinds.{entryOf, kindOf, operandOf}
 use Rattle.machine.specs.Lists.{upFrom}
-use Rattle.schedule.specs.Types.{Accepted, Allowed, Meaning, Reading, Refusal, Sizes, Writing, Written}
+use Rattle.schedule.specs.Types.{Accepted, Allowed, Meaning, Reading, Refusal, Sizes}
 use Rattle.schedule.specs.Types.{BeginPut, BeginSteal, BeginTake, ClientStore, Drain, Entry, ThiefStep, WorkerStep}
 use Rattle.schedule.specs.declared.reader.Reading.the-variants as reading
-use Rattle.schedule.specs.declared.writer.Writing.the-variants as writing
 use Rattle.number.specs.Number.{littleEndian}
 use Rattle.schedule.specs.Format.{sizeNumbers, wordBytes, wordsIn}
 use Rattle.schedule.specs.Entries.{entryAt}
 use Rattle.schedule.specs.Reader.{kindPart, kindStart, operandPart, operandStart, readFile}
-use Rattle.schedule.specs.Writer.{bufferAfter, writeFile}
 
 -- ── Rows ────────────────────────────────────────────────────────────────────────────────────────────────────────────────────
 
@@ -30,10 +28,6 @@ pub data Row : Type 0 where
   means : (thieves kind operand : ℕ) → Entry → Row
   -- the place of two arrays, kinds and operands' bytes, at which there is no entry, with number and place
   noEntry : (thieves : ℕ) (kinds operands : List ℕ) (at number place : ℕ) → Row
-  -- what is written into a buffer of so many bytes, what the buffer holds afterwards, and how many bytes are told
-  writes : Sizes → (kinds operands : List ℕ) (room : ℕ) (after : List ℕ) (bytes : ℕ) → Row
-  -- what is not written, with number and place; the buffer, of so many bytes, holds what it held
-  declines : Sizes → (kinds operands : List ℕ) (room number place : ℕ) → Row
 
 abbrev pub equal : List ℕ → List ℕ → Bool
 equal [] [] = true
@@ -60,14 +54,6 @@ abbrev pub isNoEntry : ℕ → ℕ → Meaning → Bool
 isNoEntry number place (Allowed e) = false
 isNoEntry number place (meaning.Refused r) = refusedBy r number place
 
-abbrev pub isWritten : ℕ → Writing → Bool
-isWritten bytes (Written n) = eqb n bytes
-isWritten bytes (writing.Refused r) = false
-
-abbrev pub isNotWritten : ℕ → ℕ → Writing → Bool
-isNotWritten number place (Written n) = false
-isNotWritten number place (writing.Refused r) = refusedBy r number place
-
 -- a buffer before it is lent; no file of the table has a byte 170
 abbrev pub before : ℕ → List ℕ
 before room = replicate room 170
@@ -88,10 +74,6 @@ holds (refuses file number place) =
 holds (means thieves kind operand e) =
     isEntry e (entryOf thieves 0 kind operand) && isEntry e (entryAt thieves (kind ∷ []) (wordsIn (littleEndian 4 operand)) 0)
 holds (noEntry thieves kinds operands at number place) = isNoEntry number place (entryAt thieves kinds (wordsIn operands) at)
-holds (writes s kinds operands room after bytes) =
-    isWritten bytes (writeFile s kinds operands room) && equal (bufferAfter s kinds operands (before room)) after
-holds (declines s kinds operands room number place) =
-    isNotWritten number place (writeFile s kinds operands room) && equal (bufferAfter s kinds operands (before room)) (before room)
 
 -- ── Files ───────────────────────────────────────────────────────────────────────────────────────────────────────────────────
 
@@ -106,7 +88,7 @@ example = sized 4 1 0 1 1 0
 abbrev pub withThieves : ℕ → Sizes
 withThieves thieves = sized 4 1 0 1 thieves 0
 
--- Files made with the encoder. Byte order shows where bytes are written out: in the example, in the file of six different sizes, and where an operand is written whose bytes are 1, 2, 3 and 4.
+-- Files made with the encoder. Byte order shows where bytes are written out: in the example, and in the file of six different sizes, of which one has the bytes 1, 2, 3 and 4.
 abbrev pub header : Sizes → ℕ → List ℕ
 header s entries = wordBytes (sizeNumbers s entries)
 
@@ -223,24 +205,5 @@ entries =
     -- every byte above 6
     ∷ map (λ kind. noEntry 8 (0 ∷ kind ∷ []) (replicate 8 0) 1 3 1) (upFrom 7 249)
 
-abbrev pub writings : List Row
-writings =
-    writes example (2 ∷ 4 ∷ 4 ∷ 4 ∷ 0 ∷ 4 ∷ []) exampleOperands 60 (exampleFile ++ before 2) 58
-    ∷ writes different [] [] 29 (differentFile ++ before 1) 28
-    ∷ writes example (2 ∷ []) (67305985 ∷ []) 33 (header example 1 ++ (2 ∷ 1 ∷ 2 ∷ 3 ∷ 4 ∷ [])) 33
-    -- in their order: the sizes, lowest place first, the lengths, the first faulty entry with its kind first, the room
-    ∷ declines (sized 4 65 0 1 9 0) (7 ∷ []) [] 27 1 1
-    ∷ declines (withThieves 9) (replicate 4097 0) [] 27 1 4
-    ∷ declines example (replicate 4097 0) [] 27 1 6
-    ∷ declines example (replicate 4096 0) [] 27 2 0
-    ∷ declines example (7 ∷ 0 ∷ []) (0 ∷ []) 37 2 0
-    ∷ declines example (7 ∷ []) (0 ∷ 0 ∷ []) 32 2 0
-    ∷ declines example (7 ∷ []) (9 ∷ []) 32 3 0
-    ∷ declines example (2 ∷ 9 ∷ 5 ∷ []) (3 ∷ 0 ∷ 2 ∷ []) 42 3 1
-    ∷ declines example (0 ∷ 5 ∷ 7 ∷ []) (0 ∷ 1 ∷ 0 ∷ []) 42 4 1
-    ∷ declines example [] [] 27 8 0
-    ∷ declines example (2 ∷ []) (7 ∷ []) 32 8 0
-    ∷ []
-
 abbrev pub edges : List Row
-edges = lengths ++ sizes ++ entries ++ writings
+edges = lengths ++ sizes ++ entries

@@ -1,4 +1,4 @@
--- What is refused, and for what. Renders 1 to 4, of "The numbers", one by one and without their order, and 8 for the writer and for a run. `Reader`, `Writer` and `Run` say which of several faults is told; here stands that what is told is a
+-- What is refused, and for what. Renders 1 to 4, of "The numbers", one by one and without their order, and 8 for a run; the library `writer` has them for what is written. `Reader` and `Run` say which of several faults is told; here stands that what is told is a
 -- fault, that what has a fault is refused, and that a refusal leaves the lent buffer as it was. Kinds and operands are said a second time here, in other words; ranges and layout are those of `Check` and `Format`. Proved in `proofs/Faults.antt`.
 use mathlib.Core.Path.{_≡_}
 use mathlib.Core.Bool.{Bool, true, false, cond, not, _&&_, _||_}
@@ -6,16 +6,14 @@ use mathlib.Core.List.{List}
 use Prim.Native.Nat.{ℕ}
 use lib.Dec.{eqb, leb, ltb}
 use lib.ListN.{length, getD}
-use Rattle.schedule.specs.Types.{Accepted, Kind, Ran, Refusal, Room, Short, Size, Sizes, Tally, Who, Written}
+use Rattle.schedule.specs.Types.{Accepted, Kind, Ran, Refusal, Room, Short, Size, Sizes, Tally, Who}
 use Rattle.schedule.specs.declared.reader.Reading.the-variants as reading
 use Rattle.schedule.specs.declared.runner.Running.the-variants as running
-use Rattle.schedule.specs.declared.writer.Writing.the-variants as writing
 use Rattle.schedule.specs.Check.{sizesKept}
 use Rattle.schedule.specs.Format.{entriesIn, fileLength, kindsIn, operandsIn, sizesIn}
 use Rattle.schedule.specs.Reader.{readFile}
 use Rattle.schedule.specs.Run.{runFile, traceAfter}
 use Rattle.schedule.specs.Trace.{traceLength}
-use Rattle.schedule.specs.Writer.{bufferAfter, writeFile}
 
 -- any number for kind 2, a thief below the number of thieves for 5 and 6, and 0 for the others
 abbrev pub operandAllowed : ℕ → ℕ → ℕ → Bool
@@ -44,24 +42,12 @@ fileHas file = faultsOf file false
 abbrev pub runHas : List ℕ → ℕ → Refusal → Bool
 runHas file room = faultsOf file (ltb room (traceLength (entriesIn file)))
 
--- what a writer is handed: SHORT is arrays of different lengths, ROOM a buffer that the file does not fit in
-abbrev pub writingHas : Sizes → List ℕ → List ℕ → ℕ → Refusal → Bool
-writingHas s kinds operands room =
-    hasFault s (length kinds) kinds operands (not (eqb (length kinds) (length operands))) (ltb room (fileLength (length kinds)))
-
 -- the reader refuses for a fault that the file has, and accepts no file that has one
 abbrev pub ReaderRefusesFaults : Type 0
 ReaderRefusesFaults =
     (file : List ℕ) (r : Refusal)
     → (readFile file ≡ reading.Refused r → fileHas file r ≡ true)
     × ((s : Sizes) (entries : ℕ) → readFile file ≡ Accepted s entries → fileHas file r ≡ false)
-
--- and so does the writer
-abbrev pub WriterRefusesFaults : Type 0
-WriterRefusesFaults =
-    (s : Sizes) (kinds operands : List ℕ) (room : ℕ) (r : Refusal)
-    → (writeFile s kinds operands room ≡ writing.Refused r → writingHas s kinds operands room r ≡ true)
-    × ((n : ℕ) → writeFile s kinds operands room ≡ Written n → writingHas s kinds operands room r ≡ false)
 
 -- and so does whoever runs a file
 abbrev pub RunnerRefusesFaults : Type 0
@@ -71,10 +57,5 @@ RunnerRefusesFaults =
     × ((t : Tally) → runFile file room ≡ Ran t → runHas file room r ≡ false)
 
 -- what is refused leaves the lent buffer as it was
-abbrev pub RefusedUntouched : Type 0
-RefusedUntouched =
-    (s : Sizes) (kinds operands buffer : List ℕ) (r : Refusal)
-    → writeFile s kinds operands (length buffer) ≡ writing.Refused r → bufferAfter s kinds operands buffer ≡ buffer
-
 abbrev pub RefusedRunUntouched : Type 0
 RefusedRunUntouched = (file trace : List ℕ) (r : Refusal) → runFile file (length trace) ≡ running.Refused r → traceAfter file trace ≡ trace

@@ -1,5 +1,5 @@
 -- The layout of a schedule file. Renders the first paragraph of "The schedule file". `layout` is the one description of the format: the writer encodes by it, and the reader decodes by it. The lengths that 01 gives as
--- numbers stand as numbers, `fileLength` here and 28 in `Reader`; `RoundTrip` ties them to the layout.
+-- numbers stand as numbers, `fileLength` here and 28 in `Reader`; `RoundTrip`, of `writer`, ties them to the layout.
 use mathlib.Core.Bool.{Bool}
 use mathlib.Core.List.{List, [], _∷_, _++_}
 use Prim.Native.Nat.{ℕ, _+_, _*_, _/_}

@@ -1,5 +1,5 @@
 -- What the promises about schedule files say. Names in quotation marks are places of the scope paper, 01. The files stand in reading order; `readFile` in `Reader`,
--- `writeFile` in `Writer` and `runFile` in `Run` are what `read`, `write` and `run` answer, `bufferAfter` and `traceAfter` what lent memory holds afterwards. `layout` in `Format` is what reader and writer go by.
+-- and `runFile` in `Run` are what `read` and `run` answer, `traceAfter` what lent memory holds afterwards. `layout` in `Format` is what the reader goes by, and the writer above it.
 --
 -- numbers in bytes                      Number, of `number`
 -- refusals, their numbers and places    Refusal, of `terms`
@@ -8,13 +8,12 @@
 -- kinds, operands; KIND and WHO         Kinds, of `terms`
 -- one entry, and the first faulty one   Entries
 -- reading: the order of its checks      Reader
--- writing: the order of its checks      Writer
 -- the three totals                      Tally, of `terms`; Totals
 -- the trace, and what stands in it      Trace
 -- running a file, and one step          Run
 -- demand 3 of a trace                   Demand3
 -- what is refused, and for what         Faults
--- reading what was written, and back    RoundTrip
+-- the parts of an accepted file         Parts
 -- files at their edges, as a table      Edges
 -- runs, as a table                      Runs
 pub mod Types
@@ -22,12 +21,11 @@ pub mod Check
 pub mod Format
 pub mod Entries
 pub mod Reader
-pub mod Writer
 pub mod Totals
 pub mod Trace
 pub mod Run
 pub mod Demand3
 pub mod Faults
-pub mod RoundTrip
+pub mod Parts
 pub mod Edges
 pub mod Runs

@@ -18,5 +18,3 @@ pub use Rattle.schedule.specs.declared.reader.Reading.the-variants.{Acce
 pub use Rattle.schedule.specs.declared.runner.Running.{Running}
 pub use Rattle.schedule.specs.declared.runner.Running.the-variants.{Ran}
 pub use Rattle.schedule.specs.declared.runner.Stepped.{Stepped}
-pub use Rattle.schedule.specs.declared.writer.Writing.{Writing}
-pub use Rattle.schedule.specs.declared.writer.Writing.the-variants.{Written}

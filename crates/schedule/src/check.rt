@@ -5,13 +5,13 @@ use terms::SizeCheck;
 use terms::Sizes;
 
 // What a check comes to.
-pub(crate) enum Check {
+pub enum Check {
     Passed,
     Failed(Refusal),
 }
 
 // Whether the seven sizes are in range. `terms` knows the first six; the seventh is the number of entries.
-pub(crate) fn check_ranges(sizes: Sizes, entries: usize) -> Check
+pub fn check_ranges(sizes: Sizes, entries: usize) -> Check
     ensures { λ r. ⌜ r ≡ checkRanges sizes entries ⌝ }
 {
     let found = sizes.check();

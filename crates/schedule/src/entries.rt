@@ -36,19 +36,3 @@ pub(crate) fn check_part(thieves: u32, kinds: &[u8], operands: &[u8]) -> Check
     }
     Check::Passed
 }
-
-// The same of two arrays, before they are a file.
-pub(crate) fn check_arrays(thieves: u32, kinds: &[u8], operands: &[u32]) -> Check
-    requires { ⌜ length (now operands) ≡ length (now kinds) ⌝ }
-    ensures { λ r. ⌜ r ≡ checkEntries thieves (now (kinds .entry)) (now (operands .entry)) ⌝ }
-{
-    let mut at = 0;
-    while at < kinds.len() {
-        let meaning = entry_of(thieves, at, kinds[at], operands[at]);
-        if let Meaning::Refused(refusal) = meaning {
-            return Check::Failed(refusal);
-        }
-        at += 1;
-    }
-    Check::Passed
-}

@@ -3,29 +3,29 @@
 // A schedule is six sizes, which set up a machine, and a list of entries for it to obey. Its file is bytes that anybody may
 // have made, so nothing is believed of them: `read` answers the sizes and the number of entries, or a refusal that says
 // which rule is broken and where. Only a file that is read as a whole goes on; its kinds and its operands are then parts of
-// the same bytes, and nothing is copied. `write` makes the file of a schedule in memory that the caller lends, and
-// touches none of it unless the whole file is right and fits.
+// the same bytes, and nothing is copied.
 //
 // `run` obeys every entry of a file from the fresh machine and writes the trace into memory that the caller lends, of which a
 // refusal touches nothing; it tells the totals. With enough margin the answers in that trace are those of a plain queue, and its
 // promise says so (`specs/Demand3.antt`). `step` is one entry of a run, to watch.
 //
-// Reader and writer go by one layout (`specs/Format.antt`), and what one writes the other reads, and the other way round
-// (`specs/RoundTrip.antt`). Sizes, entries with their kinds, outcomes, refusals and totals are those of the library `terms`.
-// No function here asks anything of its caller. Reading order:
+// The reader goes by one layout (`specs/Format.antt`), and so does the writer, the library `writer`, which shares the check of the
+// sizes and the lengths of a file's parts. Sizes, entries with their kinds, outcomes, refusals and totals are those of the
+// library `terms`. No function here asks anything of its caller. Reading order:
 //
 // - `check`: what a check comes to, and the check of the sizes;
 // - `layout`: the lengths of a file's parts;
 // - `entries`: one entry, and the first faulty one;
-// - `reader`, `writer`: a file as a whole;
+// - `reader`: a file as a whole;
 // - `runner`: one step, and a run with its trace.
 mod check;
 mod entries;
 mod layout;
 mod reader;
 mod runner;
-mod writer;
 
+pub use check::Check;
+pub use check::check_ranges;
 pub use entries::entry_at;
 pub use layout::ENTRY_BYTES;
 pub use layout::SIZES_BYTES;
@@ -38,5 +38,3 @@ pub use runner::Running;
 pub use runner::Stepped;
 pub use runner::run;
 pub use runner::step;
-pub use writer::Writing;
-pub use writer::write;

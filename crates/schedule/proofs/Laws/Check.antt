@@ -2,14 +2,16 @@
 use mathlib.Core.Path.{_≡_, refl, ap, sym, _∙_}
 use mathlib.Core.Bool.{Bool, true, false, cond}
 use mathlib.Core.List.{List, [], _∷_, _++_, map, map-append}
-use Prim.Native.Nat.{ℕ, zero, suc, _+_, _<_, suc-le-suc}
+use Prim.Native.Nat.{ℕ, zero, suc, _+_, _≤_, _<_, suc-le-suc}
 use native.Mathlib.Nat.{add-zero, le-dest, le-of-suc-le-suc, not-suc-le-zero, zero-add, zero-lt-suc}
 use native.Mathlib.Numerals.{add-one}
 use native.Mathlib.Omega.{arith}
+use lib.Dec.{leb}
 use lib.ListN.{getD, length, length-map}
+use borrow.Author.Tests.{leb-true}
 use Rattle.terms.specs.Sizes.{checkSizes, firstFault, noFault, rangesKept, sizesInRange, within}
 use Rattle.terms.proofs.Laws.Sizes.{kept-at}
-use Rattle.terms.proofs.Laws.Tests.{cond-map}
+use Rattle.terms.proofs.Laws.Tests.{both-right, cond-map}
 use Rattle.machine.specs.Lists.{upFrom, upTo}
 use Rattle.machine.proofs.Laws.Sums.{length-upTo, upTo-suc}
 use Rattle.schedule.specs.Types.{AllInRange, Check, Failed, OutOfRange, Passed, Refusal, Size, SizeCheck, Sizes}
@@ -178,3 +180,7 @@ module _ (s : Sizes) (entries : ℕ) where
       go : (c : SizeCheck) → checkSizes s ≡ c → noFault c ≡ true
       go AllInRange found = refl
       go (OutOfRange at) found = absurd (not-both (sym (ranges-found s entries at found) ∙ e))
+
+-- .. and so of the last: there are few entries
+pub few-entries : (s : Sizes) (entries : ℕ) → checkRanges s entries ≡ Passed → entries ≤ 4096
+few-entries s entries in-range = leb-true entries 4096 (both-right (leb 0 entries) (leb entries 4096) (ranges-passed s entries in-range 6))

@@ -33,10 +33,10 @@ use Rattle.schedule.specs.Reader.{readFile}
 use Rattle.schedule.specs.Run.{entriesOf, entryMeant, outcomesIn, runFile, runningOf, scheduleIn}
 use Rattle.schedule.specs.Totals.{countedFrom, tallyOf}
 use Rattle.schedule.proofs.Laws.Bytes.{allBelow-drop}
+use Rattle.schedule.proofs.Laws.Check.{few-entries}
 use Rattle.schedule.proofs.Laws.Entries.{check-allowed, entries-passed, entry-as-read}
 use Rattle.schedule.proofs.Laws.Format.{decode-below, length-kindsIn, operandsIn-words}
 use Rattle.schedule.proofs.Laws.Reader.{accepted-readable, kinds-part, operands-part, part-to-end, parts-checked}
-use Rattle.schedule.proofs.Laws.Writer.{few-entries}
 
 -- ── One entry more ──────────────────────────────────────────────────────────────────────────────────────────────────────────
 

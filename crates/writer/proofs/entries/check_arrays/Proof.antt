@@ -3,10 +3,10 @@ use mathlib.Core.Path.{_≡_, _∙_, subst, sym}
 use Prim.Native.Nat.{_-_, _<_}
 use borrow.Author.Needs.{needs}
 use lib.ListN.{length}
 use Rattle.schedule.specs.Entries.{entryAt}
 use Rattle.schedule.proofs.Laws.Entries.{NoneBefore, entryAt-both, first-faulty, none-at-all, none-before-first, none-before-next}
-use Rattle.schedule.proofs.entries.check_arrays.Statement.{statement}
-use Rattle.schedule.proofs.entries.check_arrays.Tie as tie
+use Rattle.writer.proofs.entries.check_arrays.Statement.{statement}
+use Rattle.writer.proofs.entries.check_arrays.Tie as tie
 
 abbrev Inv-loop : tie.InvT-loop
 Inv-loop thieves kinds operands at₀ at = NoneBefore thieves kinds operands at

@@ -5,8 +5,8 @@ use native.Mathlib.Numerals.{add-one}
 use native.Mathlib.Omega.{arith}
 use lib.ListN.{length, length-set}
 use lib.Seq.{paste, paste-suc, paste-zero, take-length}
-use Rattle.schedule.proofs.writer.put_kinds.Statement.{statement}
-use Rattle.schedule.proofs.writer.put_kinds.Tie as tie
+use Rattle.writer.proofs.writer.put_kinds.Statement.{statement}
+use Rattle.writer.proofs.writer.put_kinds.Tie as tie
 
 abbrev Inv-loop : tie.InvT-loop
 Inv-loop buffer₀ at kinds i₀ buffer i = (buffer ≡ paste buffer₀ at kinds i) × (length buffer ≡ length buffer₀) × (i ≤ length kinds)

@@ -1,11 +1,11 @@
 -- `put_sizes` meets its contract: each call writes one size more, right behind those before it.
 use native.Mathlib.Omega.{arith}
 use borrow.Author.Needs.{needs}
 use Rattle.schedule.specs.Format.{sizeNumbers}
 use Rattle.number.proofs.Laws.Overwritten.{overwritten-nothing}
-use Rattle.schedule.proofs.Laws.Words.{words-more}
-use Rattle.schedule.proofs.writer.put_sizes.Statement.{statement}
-use Rattle.schedule.proofs.writer.put_sizes.Tie as tie
+use Rattle.writer.proofs.Laws.Words.{words-more}
+use Rattle.writer.proofs.writer.put_sizes.Statement.{statement}
+use Rattle.writer.proofs.writer.put_sizes.Tie as tie
 
 -- What is known behind each call stands four places before what is known behind the next.
 returns : tie.Need-returns

@@ -4,19 +4,18 @@ use mathlib.Core.Bool.{not, true}
 use mathlib.Core.List.{List, [], _∷_, _++_}
 use Prim.Native.Nat.{ℕ, _+_, _*_, _≤_, _<_, zero-le}
 use native.Mathlib.Omega.{arith}
-use lib.Dec.{eqb, leb, ltb}
+use lib.Dec.{eqb, ltb}
 use lib.ListN.{length, drop, getD, length-append}
-use borrow.Author.Tests.{eq-eqb, eqb-true, le-ltb, leb-true, lt-ltb, ltb-false, ne-eqb, not-false}
-use Rattle.terms.proofs.Laws.Tests.{both-right}
-use Rattle.schedule.specs.Types.{Check, Failed, Passed, Refusal, Room, Short, Sizes, Written}
-use Rattle.schedule.specs.declared.writer.Writing.the-variants.{Refused}
+use borrow.Author.Tests.{eq-eqb, eqb-true, le-ltb, lt-ltb, ltb-false, ne-eqb, not-false}
+use Rattle.writer.specs.Types.{Check, Failed, Passed, Refusal, Room, Short, Sizes, Written}
+use Rattle.writer.specs.declared.writer.Writing.the-variants.{Refused}
 use Rattle.number.specs.Number.{overwritten}
 use Rattle.schedule.specs.Check.{checkRanges, failIf, first}
 use Rattle.schedule.specs.Format.{allBelow, fileOf, sizeBytes, wordBytes}
 use Rattle.schedule.specs.Entries.{checkEntries}
-use Rattle.schedule.specs.Writer.{writingOf, checkWriting, writeFile, writingChecks}
-use Rattle.schedule.proofs.Laws.Check.{failIf-passed, first-failed, first-passed, ranges-passed}
+use Rattle.writer.specs.Writer.{writingOf, checkWriting, writeFile, writingChecks}
+use Rattle.schedule.proofs.Laws.Check.{failIf-passed, first-failed, first-passed}
 use Rattle.schedule.proofs.Laws.Format.{fileOf-parts, length-sizeBytes}
 use Rattle.number.proofs.Laws.Overwritten.{overwritten-behind}
 
 -- which check decides, where one fails
@@ -91,10 +90,7 @@ module _ (s : Sizes) (kinds operands : List ℕ) (room : ℕ) where
       go Passed found told = absurd (not-both-written told)
       go (Failed q) found told = let failed = first-failed (writingChecks s kinds operands room) r (found ∙ cc) in (failed .0, failed .1 .1)
 
--- what has passed all checks has few entries, and the file fits
-pub few-entries : (s : Sizes) (entries : ℕ) → checkRanges s entries ≡ Passed → entries ≤ 4096
-few-entries s entries in-range = leb-true entries 4096 (both-right (leb 0 entries) (leb entries 4096) (ranges-passed s entries in-range 6))
-
+-- what has passed all checks can be written
 pub passed-writable : (s : Sizes) (kinds operands : List ℕ) (room : ℕ) → checkWriting s kinds operands room ≡ Passed → Writable s kinds operands room
 passed-writable s kinds operands room passed =
     written-writable s kinds operands room (28 + 5 * length kinds) (ap (writingOf (28 + 5 * length kinds)) passed) .1

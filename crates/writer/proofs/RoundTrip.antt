@@ -1,27 +1,26 @@
--- What is read is written back byte for byte, what was written is read back, and the parts of an accepted file hold its arrays.
+-- What is read is written back byte for byte, and what was written is read back.
 use mathlib.Core.Path.{_≡_, refl, ap, sym, _∙_}
 use mathlib.Core.Bool.{true}
 use mathlib.Core.List.{List, [], _++_, append-nil}
-use Prim.Native.Nat.{ℕ, _+_, _*_, _≤_, _<_}
+use Prim.Native.Nat.{ℕ, _+_, _*_, _≤_}
 use native.Mathlib.Nat.{zero-add}
 use native.Mathlib.Omega.{arith}
 use lib.ListN.{drop, getD, length, replicate, take, take-append-drop}
 use lib.Seq.{drop-at, drop-drop, take-at}
 use borrow.Author.Tests.{lt-ltb}
 use Rattle.terms.proofs.Laws.Sizes.{sizes-bounds}
-use Rattle.schedule.specs.Types.{Accepted, Sizes, Written}
+use Rattle.writer.specs.Types.{Accepted, Sizes, Written}
 use Rattle.schedule.specs.Check.{checkRanges}
-use Rattle.schedule.specs.Entries.{checkEntries, entryAt}
-use Rattle.schedule.specs.Format.{allBelow, decode, encode, entriesIn, fileOf, kindsIn, layout, operandsIn, sizeNumbers, sizesIn, wordsIn}
-use Rattle.schedule.specs.Reader.{kindPart, operandPart, partOf, startOf}
-use Rattle.schedule.specs.RoundTrip.{EntriesAsRead, EntryOfFile, PartsOfAccepted, ReadBack, ReadThenWritten, WrittenBack, WrittenThenRead}
-use Rattle.schedule.specs.Writer.{writingOf, bufferAfter, bufferIf}
+use Rattle.schedule.specs.Entries.{checkEntries}
+use Rattle.schedule.specs.Format.{allBelow, decode, encode, entriesIn, fileOf, kindsIn, layout, operandsIn, sizeNumbers, sizesIn}
+use Rattle.writer.specs.RoundTrip.{ReadBack, ReadThenWritten, WrittenBack, WrittenThenRead}
+use Rattle.writer.specs.Writer.{writingOf, bufferAfter, bufferIf}
 use Rattle.schedule.proofs.Laws.Reader.{Readable, accepted-readable, readable-accepted}
-use Rattle.schedule.proofs.Laws.Writer.{Writable, few-entries, writable-passes, written-writable}
-use Rattle.schedule.proofs.Laws.Check.{ranges-sizes}
-use Rattle.schedule.proofs.Laws.Entries.{check-allowed, entries-bytes, entries-passed, entry-as-read, entryAt-both}
+use Rattle.writer.proofs.Laws.Writer.{Writable, writable-passes, written-writable}
+use Rattle.schedule.proofs.Laws.Check.{few-entries, ranges-sizes}
+use Rattle.schedule.proofs.Laws.Entries.{entries-bytes}
 use Rattle.schedule.proofs.Laws.Format.{decode-encode, encode-decode, fitting, fitting-append, fitting-replicate}
-use Rattle.schedule.proofs.Laws.Format.{kindsIn-part, length-fileOf, length-kindsIn, length-operandsIn, operandsIn-part, total-layout}
+use Rattle.schedule.proofs.Laws.Format.{length-fileOf, length-kindsIn, length-operandsIn, total-layout}
 
 -- ── Read, then written ──────────────────────────────────────────────────────────────────────────────────────────────────────
 
@@ -176,48 +175,3 @@ written-then-read s kinds operands words buffer n e =
     let long : length file ≡ n = length-fileOf s kinds operands (p .parallel) ∙ sym (known .0) in
     rw (buffer-written s kinds operands buffer p, take-at file (drop (length file) buffer) n long)
     (read-back s kinds operands words (length buffer) p)
-
--- ── Parts ───────────────────────────────────────────────────────────────────────────────────────────────────────────────────
-
-pub entries-as-read : EntriesAsRead
-entries-as-read thieves place kind operand entry allowed = entry-as-read thieves place kind operand entry allowed
-
-module _ (file : List ℕ) (p : Readable file) where
-  kinds-handed : kindPart file ≡ kindsIn (entriesIn file) file
-  kinds-handed =
-      ap (λ r. partOf r (λ entries. take entries (drop 28 file))) (readable-accepted file p)
-      ∙ sym (kindsIn-part (entriesIn file) file (omega (arith, p .long)))
-
-  operands-handed : wordsIn (operandPart file) ≡ operandsIn (entriesIn file) file
-  operands-handed =
-      ap (λ r. wordsIn (partOf r (λ entries. drop (28 + entries) file))) (readable-accepted file p)
-      ∙ sym (operandsIn-part (entriesIn file) file (p .long))
-
-  entry-handed : (at : ℕ) → at < entriesIn file → EntryOfFile file (sizesIn file) (entriesIn file) at
-  entry-handed at below =
-      let entries = entriesIn file in
-      let kinds = kindsIn entries file in
-      let operands = operandsIn entries file in
-      let thieves = sizesIn file .thieves in
-      let there : at < length kinds = omega (arith, length-kindsIn entries file) in
-      let there-too : at < length operands = omega (arith, length-operandsIn entries file) in
-      let found = check-allowed (entryAt thieves kinds operands at) (entries-passed thieves kinds operands (p .each) at there) in
-      let meant = entry-as-read thieves at (getD kinds at 0) (getD operands at 0) (found .0) (sym (entryAt-both thieves kinds operands at there there-too) ∙ found .1) in
-      record {
-        entry = found .0;
-        allowed = (λ i. entryAt thieves (kinds-handed i) (operands-handed i) at) ∙ found .1;
-        kind = meant .0;
-        operand = meant .1;
-      }
-
-pub parts-of-accepted : PartsOfAccepted
-parts-of-accepted file s entries e =
-    let known = accepted-readable file s entries e in
-    rw (known .0, known .1 .0)
-    (record {
-      kinds-start = ap (λ r. startOf r (λ n. 28)) (readable-accepted file (known .1 .1));
-      operands-start = ap (λ r. startOf r (λ n. 28 + n)) (readable-accepted file (known .1 .1));
-      kinds = kinds-handed file (known .1 .1);
-      operands = operands-handed file (known .1 .1);
-      each = entry-handed file (known .1 .1);
-    })

@@ -2,9 +2,9 @@
 use mathlib.Core.Path.{sym}
 use borrow.Author.Needs.{needs}
 use Rattle.terms.proofs.Laws.Tests.{known}
-use Rattle.schedule.proofs.Laws.Writer.{writable-passes, write-faulty, write-no-room, write-out-of-range, write-short}
-use Rattle.schedule.proofs.writer.check_writing.Statement.{statement}
-use Rattle.schedule.proofs.writer.check_writing.Tie as tie
+use Rattle.writer.proofs.Laws.Writer.{writable-passes, write-faulty, write-no-room, write-out-of-range, write-short}
+use Rattle.writer.proofs.writer.check_writing.Statement.{statement}
+use Rattle.writer.proofs.writer.check_writing.Tie as tie
 
 returns : tie.Need-returns
 returns c =

@@ -1,16 +1,16 @@
 ghost use mathlib.Core.Path.{_≡_};
 ghost use Prim.Native.Nat.{_+_, _*_, _≤_};
 ghost use lib.ListN.{length};
 ghost use Rattle.schedule.specs.Format.{fileOf, sizeBytes, wordBytes};
 ghost use Rattle.number.specs.Number.{overwritten};
-ghost use Rattle.schedule.specs.Types.{Passed};
-ghost use Rattle.schedule.specs.Writer.{bufferAfter, checkWriting, writeFile};
-use crate::check::Check;
-use crate::check::check_ranges;
+ghost use Rattle.writer.specs.Types.{Passed};
+ghost use Rattle.writer.specs.Writer.{bufferAfter, checkWriting, writeFile};
 use crate::entries::check_arrays;
-use crate::layout::ENTRY_BYTES;
-use crate::layout::SIZES_BYTES;
 use number::put_word;
+use schedule::Check;
+use schedule::ENTRY_BYTES;
+use schedule::SIZES_BYTES;
+use schedule::check_ranges;
 use terms::Refusal;
 use terms::Sizes;
 

@@ -2,10 +2,11 @@
 use native.Mathlib.Omega.{arith}
 use borrow.Author.Needs.{needs}
 use lib.ListN.{length}
 use Rattle.schedule.proofs.Laws.Entries.{entries-bytes}
-use Rattle.schedule.proofs.Laws.Writer.{Writable, few-entries, file-written, passed-writable}
-use Rattle.schedule.proofs.writer.put_file.Statement.{statement}
-use Rattle.schedule.proofs.writer.put_file.Tie as tie
+use Rattle.schedule.proofs.Laws.Check.{few-entries}
+use Rattle.writer.proofs.Laws.Writer.{Writable, file-written, passed-writable}
+use Rattle.writer.proofs.writer.put_file.Statement.{statement}
+use Rattle.writer.proofs.writer.put_file.Tie as tie
 
 -- what the checks have found
 right : (c : tie.Start) → Writable (c .args .sizes) (c .args .kinds .now) (c .args .operands .now) (length (c .args .buffer .now))

@@ -5,12 +5,12 @@ use Prim.Native.Nat.{_-_, _≤_}
 use native.Mathlib.Omega.{arith}
 use lib.ListN.{length, take}
 use lib.Seq.{take-length}
 use Rattle.schedule.specs.Format.{wordBytes}
 use Rattle.number.specs.Number.{overwritten}
 use Rattle.number.proofs.Laws.Overwritten.{overwritten-nothing}
-use Rattle.schedule.proofs.Laws.Words.{words-more}
-use Rattle.schedule.proofs.writer.put_operands.Statement.{statement}
-use Rattle.schedule.proofs.writer.put_operands.Tie as tie
+use Rattle.writer.proofs.Laws.Words.{words-more}
+use Rattle.writer.proofs.writer.put_operands.Statement.{statement}
+use Rattle.writer.proofs.writer.put_operands.Tie as tie
 
 abbrev Inv-loop : tie.InvT-loop
 Inv-loop buffer₀ at operands i₀ buffer i =

@@ -5,11 +5,12 @@ use native.Mathlib.Omega.{arith}
 use borrow.Author.Needs.{needs}
 use lib.ListN.{length}
 use Rattle.terms.proofs.Laws.Tests.{known}
 use Rattle.schedule.specs.Format.{fileOf}
-use Rattle.schedule.specs.Writer.{writingOf, bufferIf}
-use Rattle.schedule.proofs.Laws.Writer.{few-entries, passed-writable}
-use Rattle.schedule.proofs.writer.write.Statement.{statement}
-use Rattle.schedule.proofs.writer.write.Tie as tie
+use Rattle.writer.specs.Writer.{writingOf, bufferIf}
+use Rattle.schedule.proofs.Laws.Check.{few-entries}
+use Rattle.writer.proofs.Laws.Writer.{passed-writable}
+use Rattle.writer.proofs.writer.write.Statement.{statement}
+use Rattle.writer.proofs.writer.write.Tie as tie
 
 returns : tie.Need-returns
 returns c =

@@ -4,11 +4,11 @@ use mathlib.Core.List.{List, [], _∷_}
 use Prim.Native.Nat.{ℕ}
 use lib.Dec.{eqb, ltb}
 use lib.ListN.{length}
-use Rattle.schedule.specs.Types.{Check, Failed, Passed, Room, Short, Sizes, Writing, Written}
-use Rattle.schedule.specs.declared.writer.Writing.the-variants as writing
+use Rattle.writer.specs.Types.{Check, Failed, Passed, Room, Short, Sizes, Writing, Written}
+use Rattle.writer.specs.declared.writer.Writing.the-variants as writing
 use Rattle.schedule.specs.Check.{checkRanges, failIf, first}
 use Rattle.schedule.specs.Entries.{checkEntries}
 use Rattle.schedule.specs.Format.{fileLength, fileOf}
 use Rattle.number.specs.Number.{overwritten}
 
 -- the checks of what is to be written into a buffer of so many bytes, in their order

@@ -1,0 +1,4 @@
+pub mod Laws
+pub mod Edges
+pub mod Faults
+pub mod RoundTrip
