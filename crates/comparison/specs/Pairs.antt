@@ -2,6 +2,7 @@
 use mathlib.Core.Bool.{Bool, true, false}
 use mathlib.Core.List.{List, [], _∷_, _++_}
 use Prim.Native.Nat.{ℕ}
+use Rattle.schedule.specs.Format.{fileOf}
 use Rattle.schedule.specs.Edges.{refusedBy, sized}
 use Rattle.schedule.specs.Runs.{drains, file, put, steal, take}
 use Rattle.comparison.specs.Types.{Alike, FirstRefused, Likeness, NotAlike, SecondRefused}
@@ -50,7 +51,7 @@ holds (refusesSecond first second number place) = isSecondRefused number place (
 
 -- ── The rows ────────────────────────────────────────────────────────────────────────────────────────────────────────────────
 
--- a schedule under six sizes, and the answers in it: one put, one take, an ABORT for a thief
+-- a schedule under six sizes; one put and one take; three puts
 abbrev pub plain : List Entry → List ℕ
 plain es = file (sized 8 2 0 2 2 0) es
 
@@ -75,6 +76,7 @@ pairs =
     ∷ like (plain one) (plain (WorkerStep ∷ Drain ∷ one))
     ∷ like (plain one) (plain (one ++ (BeginTake ∷ BeginTake ∷ ThiefStep 1 ∷ [])))
     ∷ like (plain (one ++ (Drain ∷ Drain ∷ []))) (plain one)
+    ∷ like (file (sized 8 2 1 2 2 0) one) (file (sized 8 2 1 2 2 0) (one ++ (BeginTake ∷ [])))
     -- the order between parties
     ∷ like (plain (steal 0 ++ put 7 ++ drains)) (plain (put 7 ++ drains ++ steal 0))
     ∷ like (plain (steal 0 ++ steal 1)) (plain (steal 1 ++ steal 0))
@@ -108,6 +110,7 @@ pairs =
     -- refused files: the first one's first
     ∷ refusesFirst [] (plain one) 2 0
     ∷ refusesFirst (file (sized 8 2 0 2 0 0) []) [] 1 4
+    ∷ refusesFirst (fileOf (sized 8 2 0 2 2 0) (7 ∷ []) (0 ∷ [])) (plain one) 3 0
     ∷ refusesSecond (plain one) [] 2 0
     ∷ refusesSecond (plain one) (plain (Drain ∷ ThiefStep 2 ∷ [])) 4 1
     ∷ refusesSecond (plain []) (file (sized 9 2 0 2 9 0) []) 1 4

@@ -2,7 +2,6 @@
 pub use Rattle.terms.specs.declared.entry.Entry.{Entry}
 pub use Rattle.terms.specs.declared.entry.Entry.the-variants.{Drain, ClientStore, BeginPut, BeginTake, WorkerStep, BeginSteal, ThiefStep}
 pub use Rattle.terms.specs.declared.outcome.Outcome.{Outcome}
-pub use Rattle.terms.specs.declared.refusal.Refusal.{Refusal}
 pub use Rattle.terms.specs.declared.sizes.Sizes.{Sizes}
 pub use Rattle.schedule.specs.declared.reader.Reading.{Reading}
 pub use Rattle.schedule.specs.declared.reader.Reading.the-variants.{Accepted}

@@ -1,4 +1,4 @@
--- What the bench's promises say. Names in quotation marks are places of the scope paper, 01. Read in the order of the lines below, or start at the end: `Demand3`
+-- What the machine's promises say. Names in quotation marks are places of the scope paper, 01. Read in the order of the lines below, or start at the end: `Demand3`
 -- and `Linearizes` in `Linearizable` say what is claimed of a list of entries, `obey` in `Obey` what an entry does, `respond` in `PlainQueue`
 -- what the plain queue does, `effect` in `Effect` when it is told.
 --

@@ -2,7 +2,7 @@
 use mathlib.Core.Path.{_≡_}
 use mathlib.Core.Bool.{Bool, cond}
 use mathlib.Core.List.{List, [], _∷_, _++_}
-use Prim.Native.Nat.{ℕ, zero, suc, _+_, _*_, _/_, _%_}
+use Prim.Native.Nat.{ℕ, zero, suc, _+_, _*_, _/_, _%_, _≤_, _<_}
 use lib.Dec.{leb}
 use lib.ListN.{length, drop, take}
 
@@ -20,7 +20,7 @@ ofBytes (b ∷ l) = b + 256 * ofBytes l
 abbrev pub LeastSignificantFirst : Type 0
 LeastSignificantFirst = (littleEndian 4 67305985 ≡ 1 ∷ 2 ∷ 3 ∷ 4 ∷ []) × (ofBytes (1 ∷ 2 ∷ 3 ∷ 4 ∷ []) ≡ 67305985)
 
--- a list with other elements from a place on, as many as are given: a file at the front of a buffer, and each part of it behind the one before
+-- a list with other elements from a place on, as many as are given: what is written into a buffer, or a part of it
 abbrev pub overwritten : ℕ → List ℕ → List ℕ → List ℕ
 overwritten at new l = take at l ++ new ++ drop (at + length new) l
 
@@ -37,3 +37,24 @@ wordAt bytes at = cond (fits at (length bytes)) (ofBytes (take 4 (drop at bytes)
 -- bytes with a number in the four from a place on; as they were, if these are not all there
 abbrev pub wordPut : ℕ → ℕ → List ℕ → List ℕ
 wordPut at number bytes = cond (fits at (length bytes)) (overwritten at (littleEndian 4 number) bytes) bytes
+
+-- ── What reading and putting have to do with each other ─────────────────────────────────────────────────────────────────────
+
+-- A number of 32 bits that was put is read at its place, and no other byte has changed. Proved in `proofs/ReadAsPut.antt`, as is what follows.
+abbrev pub ReadAsPut : Type 0
+ReadAsPut =
+    (at n : ℕ) (l : List ℕ) → n < 4294967296 → at + 4 ≤ length l
+    → (wordAt (wordPut at n l) at ≡ n)
+    × (take at (wordPut at n l) ≡ take at l)
+    × (drop (at + 4) (wordPut at n l) ≡ drop (at + 4) l)
+
+-- at the end of the bytes: the last place, the one past it, too few bytes, and a place far away
+abbrev pub AtTheEnd : Type 0
+AtTheEnd =
+    (wordAt (9 ∷ 1 ∷ 2 ∷ 3 ∷ 4 ∷ []) 1 ≡ 67305985)
+    × (wordAt (9 ∷ 1 ∷ 2 ∷ 3 ∷ 4 ∷ []) 2 ≡ 0)
+    × (wordAt (1 ∷ 2 ∷ 3 ∷ []) 0 ≡ 0)
+    × (wordAt (1 ∷ 2 ∷ 3 ∷ 4 ∷ []) 18446744073709551615 ≡ 0)
+    × (wordPut 1 67305985 (9 ∷ 8 ∷ 7 ∷ 6 ∷ 5 ∷ []) ≡ 9 ∷ 1 ∷ 2 ∷ 3 ∷ 4 ∷ [])
+    × (wordPut 2 67305985 (9 ∷ 8 ∷ 7 ∷ 6 ∷ 5 ∷ []) ≡ 9 ∷ 8 ∷ 7 ∷ 6 ∷ 5 ∷ [])
+    × (wordPut 0 67305985 (9 ∷ 8 ∷ 7 ∷ []) ≡ 9 ∷ 8 ∷ 7 ∷ [])

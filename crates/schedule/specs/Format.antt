@@ -1,5 +1,6 @@
 -- The layout of a schedule file. Renders the first paragraph of "The schedule file". `layout` is the one description of the format: the writer encodes by it, and the reader decodes by it. The lengths that 01 gives as
--- numbers stand as numbers, `fileLength` here and 28 in `Reader`; `RoundTrip`, of `writer`, ties them to the layout.
+-- numbers stand as numbers, `fileLength` here and 28 in `Reader`; `FileLength` ties them to the layout.
+use mathlib.Core.Path.{_≡_}
 use mathlib.Core.Bool.{Bool}
 use mathlib.Core.List.{List, [], _∷_, _++_}
 use Prim.Native.Nat.{ℕ, _+_, _*_, _/_}
@@ -29,7 +30,7 @@ encode (width ∷ l) [] = []
 encode (width ∷ l) (n ∷ numbers) = littleEndian width n ++ encode l numbers
 
 -- the numbers that stand one after the other in some bytes, each in as many as the layout gives it; bytes that are missing count as 0, and
--- no check goes by such a number
+-- no file is accepted or refused by such a number
 abbrev pub decode : List ℕ → List ℕ → List ℕ
 decode [] bytes = []
 decode (width ∷ l) bytes = ofBytes (take width bytes) ∷ decode l (drop width bytes)
@@ -88,3 +89,9 @@ wordsIn bytes = decode (replicate (length bytes / 4) 4) bytes
 -- every number of a list is below a bound, as every byte is below 256
 abbrev pub allBelow : ℕ → List ℕ → Bool
 allBelow bound l = all (λ n. ltb n bound) l
+
+-- The lengths that 01 gives as numbers are the layout's. Proved in `proofs/Laws/Format.antt`.
+abbrev pub FileLength : Type 0
+FileLength =
+    (s : Sizes) (kinds operands : List ℕ) → length operands ≡ length kinds
+    → (length (sizeBytes s (length kinds)) ≡ 28) × (length (fileOf s kinds operands) ≡ fileLength (length kinds))

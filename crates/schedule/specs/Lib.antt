@@ -1,4 +1,4 @@
--- What the promises about schedule files say. Names in quotation marks are places of the scope paper, 01. The files stand in reading order; `readFile` in `Reader`,
+-- What the promises about schedule files say. Names in quotation marks are places of the scope paper, 01. The files stand in reading order; `readFile` in `Reader`
 -- and `runFile` in `Run` are what `read` and `run` answer, `traceAfter` what lent memory holds afterwards. `layout` in `Format` is what the reader goes by, and the writer above it.
 --
 -- numbers in bytes                      Number, of `number`

@@ -1,5 +1,5 @@
 -- Runs, as one table over the definitions: the example of "The program's lines", the last line of "Rehearsals" with its trace, M2 and M3 as traces, every outcome in the bytes of a trace, rooms one byte short, refusals in their order, and each outcome counted, also at the largest total. `proofs/Runs.antt` proves one fact: every row holds.
-use mathlib.Core.Bool.{Bool, true, false, _&&_}
+use mathlib.Core.Bool.{Bool, false, _&&_}
 use mathlib.Core.List.{List, [], _∷_, _++_, map}
 use Prim.Native.Nat.{ℕ}
 use lib.Dec.{eqb}
@@ -11,7 +11,7 @@ use Rattle.machine.specs.Machine.{fresh}
 use Rattle.schedule.specs.Types.{Outcome, Ran, Running, Sizes, Tally}
 use Rattle.schedule.specs.Types.{BeginPut, BeginSteal, BeginTake, ClientStore, Drain, Entry, ThiefStep, WorkerStep}
 use Rattle.schedule.specs.declared.runner.Running.the-variants as running
-use Rattle.schedule.specs.Edges.{before, equal, exampleFile, fileWith, refusedBy, sized}
+use Rattle.schedule.specs.Edges.{equal, exampleFile, refusedBy, sized}
 use Rattle.terms.specs.Kinds.{kindOf, operandOf}
 use Rattle.schedule.specs.Format.{fileOf}
 use Rattle.schedule.specs.Run.{afterSteps, outcomesOfSteps, runFile, traceAfter}
@@ -41,6 +41,10 @@ isRun given aborts waits (running.Refused r) = false
 abbrev pub isNotRun : ℕ → ℕ → Running → Bool
 isNotRun number place (Ran t) = false
 isNotRun number place (running.Refused r) = refusedBy r number place
+
+-- a buffer before it is lent; no file and no trace of a table has a byte 170
+abbrev pub before : ℕ → List ℕ
+before room = replicate room 170
 
 abbrev pub holds : Row → Bool
 holds (runs file room after given aborts waits) =
@@ -134,8 +138,8 @@ ranRows =
     ∷ declines (file (sized 4 65 0 1 1 0) []) 0 1 1
     ∷ declines (file (sized 4 1 0 1 1 0) (ThiefStep 0 ∷ ThiefStep 1 ∷ [])) 0 4 1
     ∷ declines (exampleFile ++ (0 ∷ [])) 100 2 0
-    ∷ declines (fileWith (sized 4 1 0 1 1 0) (7 ∷ []) (0 ∷ [])) 0 3 0
-    ∷ declines (fileWith (sized 4 1 0 1 1 0) (7 ∷ []) (0 ∷ [])) 9 3 0
+    ∷ declines (fileOf (sized 4 1 0 1 1 0) (7 ∷ []) (0 ∷ [])) 0 3 0
+    ∷ declines (fileOf (sized 4 1 0 1 1 0) (7 ∷ []) (0 ∷ [])) 9 3 0
     ∷ []
 
 -- steps with totals that are not none, also at their largest, and each outcome counted

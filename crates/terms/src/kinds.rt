@@ -7,7 +7,7 @@ use crate::refusal::Refusal;
 pub enum Meaning {
     // An entry for the machine to obey.
     Allowed(Entry),
-    // No entry: KIND or WHO, with the place that was asked for. SHORT, if there is nothing at that place.
+    // No entry: KIND or WHO, with the place that was asked for. Who looks an entry up answers SHORT where nothing stands.
     Refused(Refusal),
 }
 

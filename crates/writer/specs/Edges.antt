@@ -5,7 +5,9 @@ use mathlib.Core.List.{List, [], _∷_, _++_}
 use Prim.Native.Nat.{ℕ}
 use lib.Dec.{eqb}
 use lib.ListN.{replicate}
-use Rattle.schedule.specs.Edges.{before, different, differentFile, equal, example, exampleFile, exampleOperands, header, refusedBy, sized, withThieves}
+use Rattle.schedule.specs.Format.{sizeBytes}
+use Rattle.schedule.specs.Edges.{different, differentFile, equal, example, exampleFile, exampleOperands, refusedBy, sized, withThieves}
+use Rattle.schedule.specs.Runs.{before}
 use Rattle.writer.specs.Types.{Sizes, Writing, Written}
 use Rattle.writer.specs.declared.writer.Writing.the-variants as writing
 use Rattle.writer.specs.Writer.{bufferAfter, writeFile}
@@ -38,7 +40,7 @@ abbrev pub writings : List Row
 writings =
     writes example (2 ∷ 4 ∷ 4 ∷ 4 ∷ 0 ∷ 4 ∷ []) exampleOperands 60 (exampleFile ++ before 2) 58
     ∷ writes different [] [] 29 (differentFile ++ before 1) 28
-    ∷ writes example (2 ∷ []) (67305985 ∷ []) 33 (header example 1 ++ (2 ∷ 1 ∷ 2 ∷ 3 ∷ 4 ∷ [])) 33
+    ∷ writes example (2 ∷ []) (67305985 ∷ []) 33 (sizeBytes example 1 ++ (2 ∷ 1 ∷ 2 ∷ 3 ∷ 4 ∷ [])) 33
     -- in their order: the sizes, lowest place first, the lengths, the first faulty entry with its kind first, the room
     ∷ declines (sized 4 65 0 1 9 0) (7 ∷ []) [] 27 1 1
     ∷ declines (withThieves 9) (replicate 4097 0) [] 27 1 4

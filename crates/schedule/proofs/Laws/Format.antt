@@ -13,7 +13,7 @@ use Rattle.terms.proofs.Laws.Tests.{both-left, both-right}
 use Rattle.machine.proofs.Laws.Sums.{sumOf, sumOf-append}
 use Rattle.schedule.specs.Types.{Sizes}
 use Rattle.number.specs.Number.{littleEndian, ofBytes}
-use Rattle.schedule.specs.Format.{allBelow, decode, encode, fileOf, kindsIn, layout, operandsIn, sizeBytes, sizeNumbers, wordBytes, wordsIn}
+use Rattle.schedule.specs.Format.{FileLength, allBelow, decode, encode, fileOf, kindsIn, layout, operandsIn, sizeBytes, sizeNumbers, wordBytes, wordsIn}
 use Rattle.number.proofs.Laws.Number.{length-littleEndian, ofBytes-littleEndian}
 use Rattle.schedule.proofs.Laws.Bytes.{allBelow-drop, allBelow-take, littleEndian-ofBytes, ofBytes-below}
 
@@ -207,6 +207,9 @@ pub length-fileOf : (s : Sizes) (kinds operands : List ℕ) → length kinds ≡
 length-fileOf s kinds operands parallel =
     length-encode (layout (length kinds)) (sizeNumbers s (length kinds) ++ (kinds ++ operands)) (simp (length-append, length-replicate, parallel))
     ∙ total-layout (length kinds)
+
+pub file-length : FileLength
+file-length s kinds operands parallel = (length-sizeBytes s (length kinds), length-fileOf s kinds operands (sym parallel))
 
 -- some bytes hold a number of four bytes for each four of them
 pub length-wordsIn : (bytes : List ℕ) → length (wordsIn bytes) ≡ length bytes / 4
