@@ -177,10 +177,12 @@ impl Machine {
     {
         let sizes = self.sizes;
         let tail = self.tail;
-        if h.keeps_margin(tail, sizes.margin_in_use()) {
-            return self.thief_comes_to(thief, Outcome::Moved, ThiefCall::StealLoadSlot(h));
-        }
-        self.thief_comes_to(thief, Outcome::Moved, ThiefCall::StealRestoreHead(h))
+        let call = if h.keeps_margin(tail, sizes.margin_in_use()) {
+            ThiefCall::StealLoadSlot(h)
+        } else {
+            ThiefCall::StealRestoreHead(h)
+        };
+        self.thief_comes_to(thief, Outcome::Moved, call)
     }
 
     // Steal, step 5 where the margin is kept: load the slot.

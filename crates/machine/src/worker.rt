@@ -211,10 +211,12 @@ impl Machine {
         ensures { λ r. ⌜ r ≡ takeLoadHead t self ⌝ }
     {
         let head = self.head;
-        if head.at_most(t) {
-            return self.worker_comes_to(Outcome::Moved, WorkerCall::TakeLoadSlot(t));
-        }
-        self.worker_comes_to(Outcome::Moved, WorkerCall::TakeLock(t))
+        let call = if head.at_most(t) {
+            WorkerCall::TakeLoadSlot(t)
+        } else {
+            WorkerCall::TakeLock(t)
+        };
+        self.worker_comes_to(Outcome::Moved, call)
     }
 
     // Take, step 3 where t is at or above head, and step 6 where the task is still there: load the slot.
@@ -248,10 +250,12 @@ impl Machine {
     {
         let head = self.head;
         let above = t.next();
-        if above.at_most(head) {
-            return self.worker_comes_to(Outcome::Moved, WorkerCall::TakeRestoreTail(t));
-        }
-        self.worker_comes_to(Outcome::Moved, WorkerCall::TakeUnlockTask(t))
+        let call = if above.at_most(head) {
+            WorkerCall::TakeRestoreTail(t)
+        } else {
+            WorkerCall::TakeUnlockTask(t)
+        };
+        self.worker_comes_to(Outcome::Moved, call)
     }
 
     // Take, step 5 where the task is gone: store the old tail.

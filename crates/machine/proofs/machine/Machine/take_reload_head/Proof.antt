@@ -1,18 +1,22 @@
 -- `Machine::take_reload_head` meets its contract, by its test.
+use mathlib.Core.Logic.{⊎-elim}
+use mathlib.Core.Path.{_≡_}
 use borrow.Author.Needs.{needs}
 use Rattle.terms.proofs.Laws.Tests.{known}
+use Rattle.machine.specs.Worker.{headIsPast}
 use Rattle.machine.proofs.machine.Machine.take_reload_head.Statement.{statement}
 use Rattle.machine.proofs.machine.Machine.take_reload_head.Tie as tie
 
+-- what the test is of, by the contract of the index above
+above : (c : tie.After-at-most) → c .at-most .result ≡ headIsPast (c .before .before .before .args .t) (c .before .before .before .args .self)
+above c = simp (c .at-most .ensures, c .before .next .ensures)
+
 returns : tie.Need-returns
 returns c =
-    let past = known (c .before .before .at-most .ensures) (c .before .if1 .taken) in
-    simp (c .worker-comes-to .ensures, simp (c .before .before .before .next .ensures) at past)
-
-returns-2 : tie.Need-returns-2
-returns-2 c =
-    let not-past = known (c .before .before .at-most .ensures) (c .before .if1 .left) in
-    simp (c .worker-comes-to2 .ensures, simp (c .before .before .before .next .ensures) at not-past)
+    ⊎-elim
+    (λ w. simp (c .worker-comes-to .ensures, w .1, known (above (c .before .before)) (w .0 .taken)))
+    (λ w. simp (c .worker-comes-to .ensures, w .1, known (above (c .before .before)) (w .0 .left)))
+    (c .before .if1 .came)
 
 pub take-reload-head-spec : {M : Type 1} → statement M
-take-reload-head-spec = tie.close (tie.spec (λ c κs. search needs) (λ c κs. search needs) (λ c κs. search needs) returns (λ c κs. search needs) returns-2)
+take-reload-head-spec = tie.close (tie.spec (λ c κs. search needs) (λ c κs. search needs) (λ c κs. search needs) returns)
