@@ -62,15 +62,15 @@ impl Thief {
     {
         let call = self.call;
         match call {
-            ThiefCall::Idle => true,
-            ThiefCall::StealLock => true,
-            ThiefCall::StealLoadHead => true,
+            ThiefCall::Idle
+            | ThiefCall::StealLock
+            | ThiefCall::StealLoadHead
+            | ThiefCall::StealUnlockTask(_)
+            | ThiefCall::StealUnlockAbort => true,
             ThiefCall::StealRaiseHead(h) => h.in_range(),
             ThiefCall::StealLoadTail(h) => h.in_range(),
             ThiefCall::StealLoadSlot(h) => h.slot_in_range(),
-            ThiefCall::StealUnlockTask(_) => true,
             ThiefCall::StealRestoreHead(h) => h.in_range(),
-            ThiefCall::StealUnlockAbort => true,
         }
     }
 }

@@ -72,17 +72,17 @@ impl Worker {
     {
         let call = self.call;
         match call {
-            WorkerCall::Idle => true,
-            WorkerCall::PutLoadHead(_) => true,
-            WorkerCall::PutStoreSlot(_) => true,
-            WorkerCall::PutStoreTail => true,
-            WorkerCall::TakeStoreTail => true,
+            WorkerCall::Idle
+            | WorkerCall::PutLoadHead(_)
+            | WorkerCall::PutStoreSlot(_)
+            | WorkerCall::PutStoreTail
+            | WorkerCall::TakeStoreTail
+            | WorkerCall::TakeUnlockEmpty => true,
             WorkerCall::TakeLoadHead(t) => t.in_range(),
             WorkerCall::TakeLoadSlot(t) => t.slot_in_range(),
             WorkerCall::TakeLock(t) => t.in_range(),
             WorkerCall::TakeReloadHead(t) => t.in_range(),
             WorkerCall::TakeRestoreTail(t) => t.in_range(),
-            WorkerCall::TakeUnlockEmpty => true,
             WorkerCall::TakeUnlockTask(t) => t.slot_in_range(),
             WorkerCall::TakeLoadLastSlot(t) => t.slot_in_range(),
         }
