@@ -100,17 +100,16 @@ impl Machine {
         let sizes = self.sizes;
         let buffer = self.buffer;
         let worker = self.worker;
-        let thieves = self.thieves;
         let head = self.head;
         let tail = self.tail;
-        let room = sizes.buffer as usize;
-        let sized = both(sizes_in_range(sizes), buffer.count <= room);
-        let counted = both(sized, self.since <= 4096);
-        let headed = both(counted, head.in_range());
-        let tailed = both(headed, tail.in_range());
-        let stored = both(tailed, buffer.in_range());
-        let working = both(stored, worker.in_range());
-        both(working, thieves_in_range(thieves))
+        let mut ok = both(sizes_in_range(sizes), buffer.count <= sizes.buffer as usize);
+        ok = both(ok, self.since <= 4096);
+        ok = both(ok, head.in_range());
+        ok = both(ok, tail.in_range());
+        ok = both(ok, buffer.in_range());
+        ok = both(ok, worker.in_range());
+        let thieves = self.thieves;
+        both(ok, thieves_in_range(thieves))
     }
 
     // The tail as the worker loads it.

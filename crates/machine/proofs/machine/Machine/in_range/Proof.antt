@@ -10,35 +10,18 @@ returns c =
     simp (
       c .both7 .ensures,
       c .before .thieves-in-range .ensures,
-      c .before .before .both6 .ensures,
-      c .before .before .before .in-range4 .ensures,
-      c .before .before .before .before .both5 .ensures,
-      c .before .before .before .before .before .in-range3 .ensures,
-      c .before .before .before .before .before .before .both4 .ensures,
-      c .before .before .before .before .before .before .before .in-range2 .ensures,
-      c .before .before .before .before .before .before .before .before .both3 .ensures,
-      c .before .before .before .before .before .before .before .before .before .in-range .ensures,
-      c .before .before .before .before .before .before .before .before .before .before .both2 .ensures,
-      c .before .before .before .before .before .before .before .before .before .before .before .before .both .ensures,
-      c .before .before .before .before .before .before .before .before .before .before .before .before .before .before .sizes-in-range .ensures,
+      c .before .before .before .both6 .ensures,
+      c .before .before .before .before .in-range4 .ensures,
+      c .before .before .before .before .before .both5 .ensures,
+      c .before .before .before .before .before .before .in-range3 .ensures,
+      c .before .before .before .before .before .before .before .both4 .ensures,
+      c .before .before .before .before .before .before .before .before .in-range2 .ensures,
+      c .before .before .before .before .before .before .before .before .before .both3 .ensures,
+      c .before .before .before .before .before .before .before .before .before .before .in-range .ensures,
+      c .before .before .before .before .before .before .before .before .before .before .before .both2 .ensures,
+      c .before .before .before .before .before .before .before .before .before .before .before .before .before .both .ensures,
+      c .before .before .before .before .before .before .before .before .before .before .before .before .before .before .before .before .sizes-in-range .ensures,
     )
 
 pub in-range-spec : {M : Type 1} → statement M
-in-range-spec =
-    tie.close
-    (tie.spec
-    (λ c. search needs)
-    (λ c κs. search needs)
-    (λ c κs. search needs)
-    (λ c κs. search needs)
-    (λ c κs. search needs)
-    (λ c κs. search needs)
-    (λ c κs. search needs)
-    (λ c κs. search needs)
-    (λ c κs. search needs)
-    (λ c κs. search needs)
-    (λ c κs. search needs)
-    (λ c κs. search needs)
-    (λ c κs. search needs)
-    (λ c κs. search needs)
-    returns)
+in-range-spec = tie.close (tie.spec (λ c κs. search needs) (λ c. search needs) (λ c κs. search needs) (λ c κs. search needs) (λ c κs. search needs) (λ c κs. search needs) (λ c κs. search needs) (λ c κs. search needs) (λ c κs. search needs) (λ c κs. search needs) (λ c κs. search needs) (λ c κs. search needs) (λ c κs. search needs) (λ c κs. search needs) returns)
