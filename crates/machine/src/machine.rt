@@ -19,9 +19,9 @@ ghost use mathlib.Core.Bool.{true};
 ghost use Rattle.terms.specs.Sizes.{sizesInRange};
 ghost use Rattle.machine.specs.InRange.{inRange};
 ghost use Rattle.machine.specs.Index.{slotIndexInRange};
-ghost use Rattle.machine.specs.Machine.{fresh, isNobody, memoryLoad, workerLoad, workerTail};
+ghost use Rattle.machine.specs.Machine.{done, fresh, isNobody, memoryLoad, workerLoad, workerTail};
 ghost use Rattle.machine.specs.Obey.{obey};
-ghost use Rattle.machine.specs.Types.{BeginPut, BeginSteal, BeginTake, ClientStore, Drain};
+ghost use Rattle.machine.specs.Types.{BeginPut, BeginSteal, BeginTake, ClientStore, Drain, Place, Wait};
 ghost use Rattle.machine.specs.Update.{withLock};
 
 // Who holds the lock.
@@ -152,21 +152,35 @@ impl Machine {
         self
     }
 
+    // Handed back as it is: what the entry needs is not there.
+    pub(crate) fn waits(self) -> Done
+        ensures { λ r. ⌜ r ≡ done Wait self ⌝ }
+    {
+        Done {
+            machine: self,
+            outcome: Outcome::Wait,
+        }
+    }
+
+    // Handed back as it is: the entry's party has a call where it must have none, or none where it must have one.
+    pub(crate) fn out_of_place(self) -> Done
+        ensures { λ r. ⌜ r ≡ done Place self ⌝ }
+    {
+        Done {
+            machine: self,
+            outcome: Outcome::Place,
+        }
+    }
+
     // The oldest pending store reaches memory.
     pub fn drain(mut self) -> Done
         ensures { λ r. ⌜ r ≡ obey self Drain ⌝ }
     {
         if !self.in_range() {
-            return Done {
-                machine: self,
-                outcome: Outcome::Wait,
-            };
+            return self.waits();
         }
         if self.buffer.count == 0 {
-            return Done {
-                machine: self,
-                outcome: Outcome::Wait,
-            };
+            return self.waits();
         }
         let buffer = self.buffer;
         let store = buffer.oldest();
@@ -188,23 +202,13 @@ impl Machine {
         ensures { λ r. ⌜ r ≡ obey self ClientStore ⌝ }
     {
         if !self.in_range() {
-            return Done {
-                machine: self,
-                outcome: Outcome::Wait,
-            };
+            return self.waits();
         }
         if self.worker_runs() {
-            return Done {
-                machine: self,
-                outcome: Outcome::Place,
-            };
+            return self.out_of_place();
         }
-        let room = self.sizes.buffer as usize;
-        if room <= self.buffer.count {
-            return Done {
-                machine: self,
-                outcome: Outcome::Wait,
-            };
+        if self.sizes.buffer as usize <= self.buffer.count {
+            return self.waits();
         }
         let store = Store {
             kind: StoreKind::Client,
@@ -223,16 +227,10 @@ impl Machine {
         ensures { λ r. ⌜ r ≡ obey self (BeginPut task) ⌝ }
     {
         if !self.in_range() {
-            return Done {
-                machine: self,
-                outcome: Outcome::Wait,
-            };
+            return self.waits();
         }
         if self.worker_runs() {
-            return Done {
-                machine: self,
-                outcome: Outcome::Place,
-            };
+            return self.out_of_place();
         }
         self.worker_comes_to(Outcome::Moved, WorkerCall::PutLoadHead(task))
     }
@@ -242,16 +240,10 @@ impl Machine {
         ensures { λ r. ⌜ r ≡ obey self BeginTake ⌝ }
     {
         if !self.in_range() {
-            return Done {
-                machine: self,
-                outcome: Outcome::Wait,
-            };
+            return self.waits();
         }
         if self.worker_runs() {
-            return Done {
-                machine: self,
-                outcome: Outcome::Place,
-            };
+            return self.out_of_place();
         }
         if both(self.taken, self.since < self.sizes.spacing) {
             return Done {
@@ -269,18 +261,13 @@ impl Machine {
         ensures { λ r. ⌜ r ≡ obey self (BeginSteal thief) ⌝ }
     {
         if !self.ready_for_thief(thief) {
-            return Done {
-                machine: self,
-                outcome: Outcome::Wait,
-            };
+            return self.waits();
         }
-        if self.thief_runs(thief) {
-            return Done {
-                machine: self,
-                outcome: Outcome::Place,
-            };
+        let call = self.thief_call(thief);
+        if let ThiefCall::Idle = call {
+            return self.thief_comes_to(thief, Outcome::Moved, ThiefCall::StealLock);
         }
-        self.thief_comes_to(thief, Outcome::Moved, ThiefCall::StealLock)
+        self.out_of_place()
     }
 
     // An entry is obeyed, whichever it is.

@@ -8,11 +8,10 @@ ghost use mathlib.Core.Path.{_≡_};
 ghost use mathlib.Core.Bool.{true, _&&_};
 ghost use Prim.Native.Nat.{_<_};
 ghost use lib.Dec.{ltb};
-ghost use lib.ListN.{getD};
 ghost use Rattle.machine.specs.Index.{indexInRange, slotIndexInRange};
 ghost use Rattle.machine.specs.InRange.{inRange, thiefInRange};
 ghost use Rattle.machine.specs.Lists.{all};
-ghost use Rattle.machine.specs.Machine.{done, idleThief, thiefCall};
+ghost use Rattle.machine.specs.Machine.{done, thiefCall};
 ghost use Rattle.machine.specs.Obey.{obey};
 ghost use Rattle.machine.specs.Thief.{
   stealLoadHead,
@@ -22,7 +21,6 @@ ghost use Rattle.machine.specs.Thief.{
   stealRaiseHead,
   stealRestoreHead,
   stealUnlock,
-  thiefRuns,
 };
 ghost use Rattle.machine.specs.Types.{ThiefStep};
 ghost use Rattle.machine.specs.Update.{withThief};
@@ -97,27 +95,14 @@ impl Machine {
         both(self.in_range(), thief < self.sizes.thieves)
     }
 
-    // The thief with this number.
-    fn thief_at(self, thief: u32) -> Thief
+    // The call of the thief with this number.
+    pub(crate) fn thief_call(self, thief: u32) -> ThiefCall
         requires { ⌜ thief < 8 ⌝ }
-        ensures { λ r. ⌜ r ≡ getD (self .thieves) thief idleThief ⌝ }
+        ensures { λ r. ⌜ r ≡ thiefCall self thief ⌝ }
     {
         let thieves = self.thieves;
-        let at = thief as usize;
-        thieves[at]
-    }
-
-    // Whether a call of the thief with this number runs.
-    pub(crate) fn thief_runs(self, thief: u32) -> bool
-        requires { ⌜ thief < 8 ⌝ }
-        ensures { λ r. ⌜ r ≡ thiefRuns (thiefCall self thief) ⌝ }
-    {
-        let found = self.thief_at(thief);
-        let call = found.call;
-        if let ThiefCall::Idle = call {
-            return false;
-        }
-        true
+        let found = thieves[thief as usize];
+        found.call
     }
 
     // Handed back with what the entry came to and the step that is next in that thief's call.
@@ -146,10 +131,7 @@ impl Machine {
             self = self.with_lock(Holder::TheThief(thief));
             return self.thief_comes_to(thief, Outcome::Moved, ThiefCall::StealLoadHead);
         }
-        Done {
-            machine: self,
-            outcome: Outcome::Wait,
-        }
+        self.waits()
     }
 
     // Steal, step 2: load head.
@@ -217,18 +199,11 @@ impl Machine {
         ensures { λ r. ⌜ r ≡ obey self (ThiefStep thief) ⌝ }
     {
         if !self.ready_for_thief(thief) {
-            return Done {
-                machine: self,
-                outcome: Outcome::Wait,
-            };
+            return self.waits();
         }
-        let found = self.thief_at(thief);
-        let call = found.call;
+        let call = self.thief_call(thief);
         match call {
-            ThiefCall::Idle => return Done {
-                machine: self,
-                outcome: Outcome::Place,
-            },
+            ThiefCall::Idle => return self.out_of_place(),
             ThiefCall::StealLock => return self.steal_lock(thief),
             ThiefCall::StealLoadHead => return self.steal_load_head(thief),
             ThiefCall::StealRaiseHead(h) => return self.steal_raise_head(thief, h),

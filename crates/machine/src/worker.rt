@@ -130,10 +130,7 @@ impl Machine {
             self.buffer = buffer.push(store);
             return self.worker_comes_to(outcome, call);
         }
-        Done {
-            machine: self,
-            outcome: Outcome::Wait,
-        }
+        self.waits()
     }
 
     // A step that frees the lock, for which nothing may be pending.
@@ -147,10 +144,7 @@ impl Machine {
             self = self.with_lock(Holder::Nobody);
             return self.worker_comes_to(outcome, call);
         }
-        Done {
-            machine: self,
-            outcome: Outcome::Wait,
-        }
+        self.waits()
     }
 
     // Put, step 1: load head. The put ends here if the tail or the slots leave no room.
@@ -237,10 +231,7 @@ impl Machine {
             self = self.with_lock(Holder::TheWorker);
             return self.worker_comes_to(Outcome::Moved, WorkerCall::TakeReloadHead(t));
         }
-        Done {
-            machine: self,
-            outcome: Outcome::Wait,
-        }
+        self.waits()
     }
 
     // Take, step 4: load head again. The tail is put back next if head is still above t, else the lock is freed.
@@ -290,18 +281,12 @@ impl Machine {
         ensures { λ r. ⌜ r ≡ obey self WorkerStep ⌝ }
     {
         if !self.in_range() {
-            return Done {
-                machine: self,
-                outcome: Outcome::Wait,
-            };
+            return self.waits();
         }
         let worker = self.worker;
         let call = worker.call;
         match call {
-            WorkerCall::Idle => return Done {
-                machine: self,
-                outcome: Outcome::Place,
-            },
+            WorkerCall::Idle => return self.out_of_place(),
             WorkerCall::PutLoadHead(task) => return self.put_load_head(task),
             WorkerCall::PutStoreSlot(task) => return self.put_store_slot(task),
             WorkerCall::PutStoreTail => return self.put_store_tail(),

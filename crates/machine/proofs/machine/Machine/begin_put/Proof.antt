@@ -19,13 +19,13 @@ obeyed : (c : tie.Else1) → obey (c .before .before .args .self) (BeginPut (c .
 obeyed c = obey-by (c .before .before .args .self) (BeginPut (c .before .before .args .task)) (ap (λ t. t && true) (ready c))
 
 returns : tie.Need-returns
-returns c = sym (obey-by (c .before .before .args .self) (BeginPut (c .before .before .args .task)) (ap (λ t. t && true) (denied (c .before .in-range .ensures) (c .if1 .taken))))
+returns c = c .waits .ensures ∙ sym (obey-by (c .before .before .before .args .self) (BeginPut (c .before .before .before .args .task)) (ap (λ t. t && true) (denied (c .before .before .in-range .ensures) (c .before .if1 .taken))))
 
 returns-2 : tie.Need-returns-2
-returns-2 c = sym (obeyed (c .before .before) ∙ by-test _ _ (known (c .before .worker-runs .ensures) (c .if2 .taken)))
+returns-2 c = c .out-of-place .ensures ∙ sym (obeyed (c .before .before .before) ∙ by-test _ _ (known (c .before .before .worker-runs .ensures) (c .before .if2 .taken)))
 
 returns-3 : tie.Need-returns-3
 returns-3 c = c .worker-comes-to .ensures ∙ sym (obeyed (c .before .before .before) ∙ by-test _ _ (known (c .before .before .worker-runs .ensures) (c .before .if2 .left)))
 
 pub begin-put-spec : {M : Type 1} → statement M
-begin-put-spec = tie.close (tie.spec (λ c κs. search needs) returns (λ c κs. search needs) returns-2 (λ c κs. search needs) returns-3)
+begin-put-spec = tie.close (tie.spec (λ c κs. search needs) (λ c κs. search needs) returns (λ c κs. search needs) (λ c κs. search needs) returns-2 (λ c κs. search needs) returns-3)

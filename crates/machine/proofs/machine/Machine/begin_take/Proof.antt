@@ -19,10 +19,10 @@ obeyed : (c : tie.Else1) → obey (c .before .before .args .self) BeginTake ≡ 
 obeyed c = obey-by (c .before .before .args .self) BeginTake (ap (λ t. t && true) (ready c))
 
 returns : tie.Need-returns
-returns c = sym (obey-by (c .before .before .args .self) BeginTake (ap (λ t. t && true) (denied (c .before .in-range .ensures) (c .if1 .taken))))
+returns c = c .waits .ensures ∙ sym (obey-by (c .before .before .before .args .self) BeginTake (ap (λ t. t && true) (denied (c .before .before .in-range .ensures) (c .before .if1 .taken))))
 
 returns-2 : tie.Need-returns-2
-returns-2 c = sym (obeyed (c .before .before) ∙ by-test _ _ (known (c .before .worker-runs .ensures) (c .if2 .taken)))
+returns-2 c = c .out-of-place .ensures ∙ sym (obeyed (c .before .before .before) ∙ by-test _ _ (known (c .before .before .worker-runs .ensures) (c .before .if2 .taken)))
 
 returns-3 : tie.Need-returns-3
 returns-3 c = sym (obeyed (c .before .before .before .before .before) ∙ by-test _ _ (known (c .before .before .before .before .worker-runs .ensures) (c .before .before .before .if2 .left)) ∙ by-test _ _ (known (c .before .both .ensures) (c .if3 .taken)))
@@ -31,4 +31,4 @@ returns-4 : tie.Need-returns-4
 returns-4 c = c .worker-comes-to .ensures ∙ sym (obeyed (c .before .before .before .before .before .before) ∙ by-test _ _ (known (c .before .before .before .before .before .worker-runs .ensures) (c .before .before .before .before .if2 .left)) ∙ by-test _ _ (known (c .before .before .both .ensures) (c .before .if3 .left)))
 
 pub begin-take-spec : {M : Type 1} → statement M
-begin-take-spec = tie.close (tie.spec (λ c κs. search needs) returns (λ c κs. search needs) returns-2 (λ c κs. search needs) returns-3 (λ c κs. search needs) returns-4)
+begin-take-spec = tie.close (tie.spec (λ c κs. search needs) (λ c κs. search needs) returns (λ c κs. search needs) (λ c κs. search needs) returns-2 (λ c κs. search needs) returns-3 (λ c κs. search needs) returns-4)

@@ -24,13 +24,13 @@ obeyed : (c : tie.Else1) → obey (c .before .before .args .self) ClientStore �
 obeyed c = obey-by (c .before .before .args .self) ClientStore (ap (λ t. t && true) (ready c))
 
 returns : tie.Need-returns
-returns c = sym (obey-by (c .before .before .args .self) ClientStore (ap (λ t. t && true) (denied (c .before .in-range .ensures) (c .if1 .taken))))
+returns c = c .waits .ensures ∙ sym (obey-by (c .before .before .before .args .self) ClientStore (ap (λ t. t && true) (denied (c .before .before .in-range .ensures) (c .before .if1 .taken))))
 
 returns-2 : tie.Need-returns-2
-returns-2 c = sym (obeyed (c .before .before) ∙ by-test _ _ (known (c .before .worker-runs .ensures) (c .if2 .taken)))
+returns-2 c = c .out-of-place .ensures ∙ sym (obeyed (c .before .before .before) ∙ by-test _ _ (known (c .before .before .worker-runs .ensures) (c .before .if2 .taken)))
 
 returns-3 : tie.Need-returns-3
-returns-3 c = sym (obeyed (c .before .before .before .before .before) ∙ by-test _ _ (known (c .before .before .before .before .worker-runs .ensures) (c .before .before .before .if2 .left)) ∙ by-test _ _ (le-ltb _ _ (c .if3 .taken)))
+returns-3 c = c .waits2 .ensures ∙ sym (obeyed (c .before .before .before .before .before .before) ∙ by-test _ _ (known (c .before .before .before .before .before .worker-runs .ensures) (c .before .before .before .before .if2 .left)) ∙ by-test _ _ (le-ltb _ _ (c .before .if3 .taken)))
 
 push-requires : tie.Need-push-requires
 push-requires c κs = room-below (c .before .before .before .before .before .before .before .before .args .self) (ready (c .before .before .before .before .before .before)) (c .before .if3 .left)
@@ -44,4 +44,4 @@ returns-4 c =
     ∙ sym (obeyed (c .before .before .before .before .before .before .before .before .before) ∙ by-test _ _ (known (c .before .before .before .before .before .before .before .before .worker-runs .ensures) (c .before .before .before .before .before .before .before .if2 .left)) ∙ by-test _ _ (lt-ltb _ _ (c .before .before .before .before .if3 .left)))
 
 pub client-store-spec : {M : Type 1} → statement M
-client-store-spec = tie.close (tie.spec (λ c κs. search needs) returns (λ c κs. search needs) returns-2 (λ c. search needs) returns-3 push-requires add-chosen (λ c κs. search needs) returns-4)
+client-store-spec = tie.close (tie.spec (λ c κs. search needs) (λ c κs. search needs) returns (λ c κs. search needs) (λ c κs. search needs) returns-2 (λ c. search needs) (λ c κs. search needs) returns-3 push-requires add-chosen (λ c κs. search needs) returns-4)

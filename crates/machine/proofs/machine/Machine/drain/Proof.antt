@@ -22,10 +22,10 @@ obeyed : (c : tie.Else1) → obey (c .before .before .args .self) Drain ≡ obey
 obeyed c = obey-by (c .before .before .args .self) Drain (ap (λ t. t && true) (ready c))
 
 returns : tie.Need-returns
-returns c = sym (obey-by (c .before .before .args .self) Drain (ap (λ t. t && true) (denied (c .before .in-range .ensures) (c .if1 .taken))))
+returns c = c .waits .ensures ∙ sym (obey-by (c .before .before .before .args .self) Drain (ap (λ t. t && true) (denied (c .before .before .in-range .ensures) (c .before .if1 .taken))))
 
 returns-2 : tie.Need-returns-2
-returns-2 c = sym (obeyed (c .before .before) ∙ by-test _ _ (ap not (eq-eqb _ _ (c .if2 .taken))))
+returns-2 c = c .waits2 .ensures ∙ sym (obeyed (c .before .before .before) ∙ by-test _ _ (ap not (eq-eqb _ _ (c .before .if2 .taken))))
 
 slots-after-requires : tie.Need-slots-after-requires
 slots-after-requires c κs =
@@ -47,4 +47,4 @@ returns-3 c =
     ∙ sym (obeyed (c .before .before .before .before .before .before .before .before .before) ∙ by-test _ _ (ap not (ne-eqb _ _ (c .before .before .before .before .before .before .before .if2 .left))))
 
 pub drain-spec : {M : Type 1} → statement M
-drain-spec = tie.close (tie.spec (λ c κs. search needs) returns returns-2 (λ c κs. search needs) slots-after-requires (λ c κs. search needs) drop-oldest-requires returns-3)
+drain-spec = tie.close (tie.spec (λ c κs. search needs) (λ c κs. search needs) returns (λ c κs. search needs) returns-2 (λ c κs. search needs) slots-after-requires (λ c κs. search needs) drop-oldest-requires returns-3)

@@ -8,7 +8,7 @@ returns : tie.Need-returns
 returns c = simp (c .thief-comes-to .ensures, c .before .with-lock .ensures, known (c .before .before .before .is-free .ensures) (c .before .before .if1 .taken))
 
 returns-2 : tie.Need-returns-2
-returns-2 c = simp (known (c .before .is-free .ensures) (c .if1 .left))
+returns-2 c = simp (c .waits .ensures, known (c .before .before .is-free .ensures) (c .before .if1 .left))
 
 pub steal-lock-spec : {M : Type 1} → statement M
-steal-lock-spec = tie.close (tie.spec (λ c κs. search needs) (λ c κs. search needs) (λ c κs. search needs) returns returns-2)
+steal-lock-spec = tie.close (tie.spec (λ c κs. search needs) (λ c κs. search needs) (λ c κs. search needs) returns (λ c κs. search needs) returns-2)

@@ -10,7 +10,9 @@ returns c =
     simp (c .worker-comes-to .ensures, c .before .with-lock .ensures, simp (c .before .before .before .before .before .is-free .ensures) at met)
 
 returns-2 : tie.Need-returns-2
-returns-2 c = let unmet = known (c .before .both .ensures) (c .if1 .left) in simp (simp (c .before .before .before .is-free .ensures) at unmet)
+returns-2 c =
+    let unmet = known (c .before .before .both .ensures) (c .before .if1 .left) in
+    simp (c .waits .ensures, simp (c .before .before .before .before .is-free .ensures) at unmet)
 
 pub take-lock-spec : {M : Type 1} → statement M
-take-lock-spec = tie.close (tie.spec (λ c κs. search needs) (λ c κs. search needs) (λ c κs. search needs) (λ c κs. search needs) returns returns-2)
+take-lock-spec = tie.close (tie.spec (λ c κs. search needs) (λ c κs. search needs) (λ c κs. search needs) (λ c κs. search needs) returns (λ c κs. search needs) returns-2)

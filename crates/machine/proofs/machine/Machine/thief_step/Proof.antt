@@ -17,34 +17,34 @@ use Rattle.machine.proofs.machine.Machine.thief_step.Tie as tie
 -- Where the call is looked at: the machine and the thief, what their test has shown, that what the call holds is in range, and that its
 -- step is what the entry does.
 
-abbrev machine : tie.After-thief-at → Machine
+abbrev machine : tie.After-thief-call → Machine
 machine c = c .before .before .before .args .self
 
-abbrev number : tie.After-thief-at → ℕ
+abbrev number : tie.After-thief-call → ℕ
 number c = c .before .before .before .args .thief
 
-there : (c : tie.After-thief-at) → ThiefReady (machine c) (number c)
+there : (c : tie.After-thief-call) → ThiefReady (machine c) (number c)
 there c = thief-ready (machine c) (number c) (granted (c .before .before .ready-for-thief .ensures) (c .before .if1 .left))
 
-called : (c : tie.After-thief-at) {call : ThiefCall} → c .thief-at .result .call ≡ call → thiefCall (machine c) (number c) ≡ call
-called c told = known (ap (λ t. t .call) (c .thief-at .ensures)) told
+called : (c : tie.After-thief-call) {call : ThiefCall} → c .thief-call .result ≡ call → thiefCall (machine c) (number c) ≡ call
+called c told = known (c .thief-call .ensures) told
 
-held : (c : tie.After-thief-at) {call : ThiefCall} → c .thief-at .result .call ≡ call → thiefInRange call ≡ true
+held : (c : tie.After-thief-call) {call : ThiefCall} → c .thief-call .result ≡ call → thiefInRange call ≡ true
 held c told = known (ap thiefInRange (called c told)) (there c .call)
 
-stepped : (c : tie.After-thief-at) {call : ThiefCall} → c .thief-at .result .call ≡ call → stepOfThief (number c) (machine c) call ≡ obey (machine c) (ThiefStep (number c))
+stepped : (c : tie.After-thief-call) {call : ThiefCall} → c .thief-call .result ≡ call → stepOfThief (number c) (machine c) call ≡ obey (machine c) (ThiefStep (number c))
 stepped c told =
     ap (stepOfThief (number c) (machine c)) (sym (called c told))
     ∙ sym (obey-by (machine c) (ThiefStep (number c)) (granted (c .before .before .ready-for-thief .ensures) (c .before .if1 .left)))
 
 returns : tie.Need-returns
-returns c = sym (obey-by (c .before .before .args .self) (ThiefStep (c .before .before .args .thief)) (denied (c .before .ready-for-thief .ensures) (c .if1 .taken)))
+returns c = c .waits .ensures ∙ sym (obey-by (c .before .before .before .args .self) (ThiefStep (c .before .before .before .args .thief)) (denied (c .before .before .ready-for-thief .ensures) (c .before .if1 .taken)))
 
-thief-at-requires : tie.Need-thief-at-requires
-thief-at-requires c κs = thief-ready (c .before .before .args .self) (c .before .before .args .thief) (granted (c .before .ready-for-thief .ensures) (c .if1 .left)) .below
+thief-call-requires : tie.Need-thief-call-requires
+thief-call-requires c κs = thief-ready (c .before .before .args .self) (c .before .before .args .thief) (granted (c .before .ready-for-thief .ensures) (c .if1 .left)) .below
 
 returns-2 : tie.Need-returns-2
-returns-2 c = stepped (c .before .before) (c .enum-told .given .1)
+returns-2 c = c .out-of-place .ensures ∙ stepped (c .before .before .before) (c .before .enum-told .given .1)
 
 steal-lock-requires : tie.Need-steal-lock-requires
 steal-lock-requires c κs = there (c .before .before) .below
@@ -95,4 +95,4 @@ returns-10 : tie.Need-returns-10
 returns-10 c = c .steal-unlock2 .ensures ∙ stepped (c .before .before .before) (c .before .enum-told4 .given .1)
 
 pub thief-step-spec : {M : Type 1} → statement M
-thief-step-spec = tie.close (tie.spec (λ c κs. search needs) returns thief-at-requires (λ c. search needs) returns-2 (λ c. search needs) steal-lock-requires returns-3 (λ c. search needs) steal-load-head-requires returns-4 (λ c. search needs) steal-raise-head-requires returns-5 (λ c. search needs) steal-load-tail-requires returns-6 (λ c. search needs) steal-load-slot-requires returns-7 (λ c. search needs) steal-unlock-requires returns-8 (λ c. search needs) steal-restore-head-requires returns-9 (λ c. search needs) steal-unlock-requires-2 returns-10)
+thief-step-spec = tie.close (tie.spec (λ c κs. search needs) (λ c κs. search needs) returns thief-call-requires (λ c. search needs) (λ c κs. search needs) returns-2 (λ c. search needs) steal-lock-requires returns-3 (λ c. search needs) steal-load-head-requires returns-4 (λ c. search needs) steal-raise-head-requires returns-5 (λ c. search needs) steal-load-tail-requires returns-6 (λ c. search needs) steal-load-slot-requires returns-7 (λ c. search needs) steal-unlock-requires returns-8 (λ c. search needs) steal-restore-head-requires returns-9 (λ c. search needs) steal-unlock-requires-2 returns-10)

@@ -27,10 +27,10 @@ stepped : (c : tie.After-worker) {call : WorkerCall} → machine c .worker .call
 stepped c told = ap (stepOfWorker (machine c)) (sym told) ∙ sym (obey-by (machine c) WorkerStep (ap (λ t. t && true) (ready c)))
 
 returns : tie.Need-returns
-returns c = sym (obey-by (c .before .before .args .self) WorkerStep (ap (λ t. t && true) (denied (c .before .in-range .ensures) (c .if1 .taken))))
+returns c = c .waits .ensures ∙ sym (obey-by (c .before .before .before .args .self) WorkerStep (ap (λ t. t && true) (denied (c .before .before .in-range .ensures) (c .before .if1 .taken))))
 
 returns-2 : tie.Need-returns-2
-returns-2 c = stepped (c .before .before) (c .enum-told .given .1)
+returns-2 c = c .out-of-place .ensures ∙ stepped (c .before .before .before) (c .before .enum-told .given .1)
 
 put-load-head-requires : tie.Need-put-load-head-requires
 put-load-head-requires c κs = ready (c .before .before .before)
@@ -93,4 +93,4 @@ returns-14 : tie.Need-returns-14
 returns-14 c = c .take-load-slot2 .ensures ∙ stepped (c .before .before .before .before) (c .before .before .call9 .given .1)
 
 pub worker-step-spec : {M : Type 1} → statement M
-worker-step-spec = tie.close (tie.spec (λ c κs. search needs) returns (λ c. search needs) returns-2 (λ c. search needs) put-load-head-requires returns-3 (λ c. search needs) put-store-slot-requires returns-4 (λ c. search needs) put-store-tail-requires returns-5 (λ c. search needs) take-store-tail-requires returns-6 (λ c. search needs) (λ c κs. search needs) returns-7 (λ c. search needs) take-load-slot-requires returns-8 (λ c. search needs) (λ c κs. search needs) returns-9 (λ c. search needs) take-reload-head-requires returns-10 (λ c. search needs) take-restore-tail-requires returns-11 (λ c. search needs) (λ c κs. search needs) returns-12 (λ c. search needs) (λ c κs. search needs) returns-13 (λ c. search needs) take-load-slot-requires-2 returns-14)
+worker-step-spec = tie.close (tie.spec (λ c κs. search needs) (λ c κs. search needs) returns (λ c. search needs) (λ c κs. search needs) returns-2 (λ c. search needs) put-load-head-requires returns-3 (λ c. search needs) put-store-slot-requires returns-4 (λ c. search needs) put-store-tail-requires returns-5 (λ c. search needs) take-store-tail-requires returns-6 (λ c. search needs) (λ c κs. search needs) returns-7 (λ c. search needs) take-load-slot-requires returns-8 (λ c. search needs) (λ c κs. search needs) returns-9 (λ c. search needs) take-reload-head-requires returns-10 (λ c. search needs) take-restore-tail-requires returns-11 (λ c. search needs) (λ c κs. search needs) returns-12 (λ c. search needs) (λ c κs. search needs) returns-13 (λ c. search needs) take-load-slot-requires-2 returns-14)

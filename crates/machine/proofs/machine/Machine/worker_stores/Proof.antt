@@ -12,7 +12,7 @@ returns : tie.Need-returns
 returns c = simp (lt-ltb _ _ (c .before .before .before .if1 .taken), c .worker-comes-to .ensures, c .before .push .ensures)
 
 returns-2 : tie.Need-returns-2
-returns-2 c = simp (le-ltb _ _ (c .if1 .left))
+returns-2 c = simp (le-ltb _ _ (c .before .if1 .left), c .waits .ensures)
 
 pub worker-stores-spec : {M : Type 1} → statement M
-worker-stores-spec = tie.close (tie.spec (λ c. search needs) push-requires (λ c κs. search needs) returns returns-2)
+worker-stores-spec = tie.close (tie.spec (λ c. search needs) push-requires (λ c κs. search needs) returns (λ c κs. search needs) returns-2)
