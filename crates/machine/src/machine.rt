@@ -114,6 +114,7 @@ impl Machine {
 
     // The tail as the worker loads it.
     pub(crate) fn worker_tail(self) -> Index
+        requires { ⌜ inRange self ≡ true ⌝ }
         ensures { λ r. ⌜ r ≡ workerTail self ⌝ }
     {
         let buffer = self.buffer;

@@ -104,16 +104,14 @@ impl StoreKind {
 impl StoreBuffer {
     // The tail as the worker loads it, from memory's.
     pub(crate) fn newest_tail(self, tail: Index) -> Index
+        requires { ⌜ self .count ≤ 64 ⌝ }
         ensures { λ r. ⌜ r ≡ newestTail tail self ⌝ }
     {
         let stores = self.stores;
         let count = self.count;
         let mut newest = tail;
         let mut i: usize = 0;
-        while i < 64 {
-            if count <= i {
-                return newest;
-            }
+        while i < count {
             let store = stores[i];
             let kind = store.kind;
             newest = kind.tail_after(newest);
@@ -124,17 +122,14 @@ impl StoreBuffer {
 
     // What the worker loads from this slot, from what memory has there.
     pub(crate) fn newest_in_slot(self, slots: u32, slot: usize, value: u32) -> u32
-        requires { ⌜ (all (λ s. storeInRange (s .kind)) (pending self) ≡ true) × (0 < slots) ⌝ }
+        requires { ⌜ (self .count ≤ 64) × (all (λ s. storeInRange (s .kind)) (pending self) ≡ true) × (0 < slots) ⌝ }
         ensures { λ r. ⌜ r ≡ newestInSlot slots slot value self ⌝ }
     {
         let stores = self.stores;
         let count = self.count;
         let mut newest = value;
         let mut i: usize = 0;
-        while i < 64 {
-            if count <= i {
-                return newest;
-            }
+        while i < count {
             let store = stores[i];
             let kind = store.kind;
             newest = kind.slot_after(slots, slot, newest);
