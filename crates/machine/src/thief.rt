@@ -111,9 +111,8 @@ impl Machine {
         ensures { λ r. ⌜ r ≡ done outcome (withThief thief call self) ⌝ }
     {
         let after = Thief { call: call };
-        let at = thief as usize;
         let mut thieves = self.thieves;
-        thieves[at] = after;
+        thieves[thief as usize] = after;
         self.thieves = thieves;
         Done {
             machine: self,

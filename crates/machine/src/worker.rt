@@ -123,8 +123,7 @@ impl Machine {
             (done outcome (withWorker call (pushed (record { kind = kind }) self)))
             ⌝ }
     {
-        let room = self.sizes.buffer as usize;
-        if self.buffer.count < room {
+        if self.buffer.count < self.sizes.buffer as usize {
             let store = Store { kind: kind };
             let buffer = self.buffer;
             self.buffer = buffer.push(store);
