@@ -110,9 +110,8 @@ impl Machine {
         requires { ⌜ thief < 8 ⌝ }
         ensures { λ r. ⌜ r ≡ done outcome (withThief thief call self) ⌝ }
     {
-        let after = Thief { call: call };
         let mut thieves = self.thieves;
-        thieves[thief as usize] = after;
+        thieves[thief as usize] = Thief { call: call };
         self.thieves = thieves;
         Done {
             machine: self,
