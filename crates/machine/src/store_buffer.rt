@@ -63,9 +63,8 @@ impl StoreKind {
         ensures { λ r. ⌜ r ≡ tailAfter tail self ⌝ }
     {
         match self {
-            StoreKind::Client => tail,
+            StoreKind::Client | StoreKind::Slot(_, _) => tail,
             StoreKind::Tail(index) => index,
-            StoreKind::Slot(_, _) => tail,
         }
     }
 
@@ -75,8 +74,7 @@ impl StoreKind {
         ensures { λ r. ⌜ r ≡ slotsAfter count slots self ⌝ }
     {
         match self {
-            StoreKind::Client => return slots,
-            StoreKind::Tail(_) => return slots,
+            StoreKind::Client | StoreKind::Tail(_) => return slots,
             StoreKind::Slot(index, task) => {
                 let slot = slot_of(index, count);
                 slots[slot] = task;
@@ -91,8 +89,7 @@ impl StoreKind {
         ensures { λ r. ⌜ r ≡ slotAfter slots slot value self ⌝ }
     {
         match self {
-            StoreKind::Client => value,
-            StoreKind::Tail(_) => value,
+            StoreKind::Client | StoreKind::Tail(_) => value,
             StoreKind::Slot(index, task) => {
                 let reached = slot_of(index, slots);
                 chosen(reached == slot, task, value)
