@@ -31,7 +31,7 @@ later-runs (StealUnlockTask x) keys = refl
 later-runs (StealRestoreHead h) keys = refl
 later-runs StealUnlockAbort keys = refl
 
--- Where the call is looked at: the thief is there, and a call that is the thief's decides the entry.
+-- Where the call is looked at: the thief is there, and whether its call runs decides the entry.
 
 there : (c : tie.Else1) → (inRange (c .before .before .args .self) && ltb (c .before .before .args .thief) (c .before .before .args .self .sizes .thieves)) ≡ true
 there c = granted (c .before .ready-for-thief .ensures) (c .if1 .left)
