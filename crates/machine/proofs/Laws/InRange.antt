@@ -82,7 +82,11 @@ module _ (m : Machine) (ready : inRange m ≡ true) where
   pub worker-tail-in-range : indexInRange (workerTail m) ≡ true
   worker-tail-in-range = let b = bounds m ready in foldl-tail (pending (m .buffer)) (m .tail) (b .tail) (b .stores)
 
-  -- with room, the array of pending stores has a free cell
+  -- the pending stores lie within their array; with room, it has a free cell
+
+  pub pending-within : m .buffer .count ≤ 64
+  pending-within = let b = bounds m ready in let most = b .sizes .buffer-most in let fits = b .count in omega arith
+
   pub room-below : m .buffer .count < m .sizes .buffer → m .buffer .count < 64
   room-below room = let b = bounds m ready .sizes in omega arith
 

@@ -8,7 +8,7 @@ use Rattle.terms.proofs.Laws.Tests.{by-test, denied, granted}
 use Rattle.machine.specs.Types.{Drain}
 use Rattle.machine.specs.InRange.{inRange}
 use Rattle.machine.specs.Obey.{obey, obeyInRange}
-use Rattle.machine.proofs.Laws.InRange.{bounds, oldest-in-range}
+use Rattle.machine.proofs.Laws.InRange.{bounds, oldest-in-range, pending-within}
 use Rattle.machine.proofs.Laws.Obey.{obey-by}
 use Rattle.machine.proofs.machine.Machine.drain.Statement.{statement}
 use Rattle.machine.proofs.machine.Machine.drain.Tie as tie
@@ -36,10 +36,8 @@ slots-after-requires c κs =
 
 drop-oldest-requires : tie.Need-drop-oldest-requires
 drop-oldest-requires c κs =
-    let bound = bounds (c .before .before .before .before .before .before .before .before .before .before .args .self) (ready (c .before .before .before .before .before .before .before .before)) in
-    let most = bound .sizes .buffer-most in
-    let fits = bound .count in
-    (omega arith, omega arith)
+    let start = c .before .before .before .before .before .before .before .before .before .before in
+    (omega arith, pending-within (start .args .self) (ready (c .before .before .before .before .before .before .before .before)))
 
 returns-3 : tie.Need-returns-3
 returns-3 c =

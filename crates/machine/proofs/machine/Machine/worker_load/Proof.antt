@@ -1,7 +1,6 @@
 -- `Machine::worker_load` meets its contract: the calls are composed as the definition is.
-use native.Mathlib.Omega.{arith}
 use borrow.Author.Needs.{needs}
-use Rattle.machine.proofs.Laws.InRange.{bounds, slot-reached}
+use Rattle.machine.proofs.Laws.InRange.{bounds, pending-within, slot-reached}
 use Rattle.machine.proofs.machine.Machine.worker_load.Statement.{statement}
 use Rattle.machine.proofs.machine.Machine.worker_load.Tie as tie
 
@@ -14,9 +13,7 @@ newest-in-slot-requires : tie.Need-newest-in-slot-requires
 newest-in-slot-requires c κs =
     let start = c .before .before .before in
     let known-of = bounds (start .args .self) (start .pre .0) in
-    let most = known-of .sizes .buffer-most in
-    let fits = known-of .count in
-    (omega arith, known-of .stores, known-of .sizes .slots-some)
+    (pending-within (start .args .self) (start .pre .0), known-of .stores, known-of .sizes .slots-some)
 
 returns : tie.Need-returns
 returns c = simp (c .newest-in-slot .ensures, c .before .before .slot-of .ensures, c .before .before .before .memory-load .ensures)
