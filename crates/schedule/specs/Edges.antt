@@ -13,7 +13,7 @@ use Rattle.schedule.specs.Types.{Accepted, Allowed, Meaning, Reading, Re
 use Rattle.schedule.specs.Types.{BeginPut, BeginSteal, BeginTake, ClientStore, Drain, Entry, ThiefStep, WorkerStep}
 use Rattle.schedule.specs.declared.reader.Reading.the-variants as reading
 use Rattle.number.specs.Number.{littleEndian}
-use Rattle.schedule.specs.Format.{fileOf, sizeBytes, sizeNumbers, wordBytes, wordsIn}
+use Rattle.schedule.specs.Format.{sizeBytes, sizeNumbers, wordBytes, wordsIn}
 use Rattle.schedule.specs.Entries.{entryAt}
 use Rattle.schedule.specs.Reader.{kindPart, kindStart, operandPart, operandStart, readFile}
 
@@ -84,7 +84,10 @@ example = sized 4 1 0 1 1 0
 abbrev pub withThieves : ℕ → Sizes
 withThieves thieves = sized 4 1 0 1 thieves 0
 
--- Files are made with the encoder. The order of bytes and of sizes shows where bytes are written out: in the example, and in the file of six different sizes, of which one has the bytes 1, 2, 3 and 4.
+-- A file put together from its parts: sizes, kinds and operands, one behind the other. It does not go by `layout`, so that the rows do not lean on what they test. The order of bytes and of
+-- sizes shows where bytes are written out: in the example, and in the file of six different sizes, of which one has the bytes 1, 2, 3 and 4.
+abbrev pub fileWith : Sizes → List ℕ → List ℕ → List ℕ
+fileWith s kinds operands = wordBytes (sizeNumbers s (length kinds)) ++ (kinds ++ wordBytes operands)
 
 abbrev pub exampleFile : List ℕ
 exampleFile =
@@ -115,7 +118,7 @@ outOfRange s entries place = refuses (sizeBytes s entries) 1 place ∷ refuses (
 
 -- one entry that is refused, with two thieves
 abbrev pub refusesEntry : ℕ → ℕ → ℕ → Row
-refusesEntry kind operand number = refuses (fileOf (withThieves 2) (kind ∷ []) (operand ∷ [])) number 0
+refusesEntry kind operand number = refuses (fileWith (withThieves 2) (kind ∷ []) (operand ∷ [])) number 0
 
 abbrev pub lengths : List Row
 lengths =
@@ -167,11 +170,11 @@ entries =
     ∷ means 2 5 1 (BeginSteal 1)
     ∷ means 8 6 7 (ThiefStep 7)
     ∷ accepts exampleFile example (2 ∷ 4 ∷ 4 ∷ 4 ∷ 0 ∷ 4 ∷ []) (wordBytes exampleOperands)
-    ∷ accepts (fileOf (withThieves 2) (0 ∷ 1 ∷ 2 ∷ 3 ∷ 4 ∷ 5 ∷ 6 ∷ []) (0 ∷ 0 ∷ 4294967295 ∷ 0 ∷ 0 ∷ 0 ∷ 1 ∷ [])) (withThieves 2)
+    ∷ accepts (fileWith (withThieves 2) (0 ∷ 1 ∷ 2 ∷ 3 ∷ 4 ∷ 5 ∷ 6 ∷ []) (0 ∷ 0 ∷ 4294967295 ∷ 0 ∷ 0 ∷ 0 ∷ 1 ∷ [])) (withThieves 2)
     (0 ∷ 1 ∷ 2 ∷ 3 ∷ 4 ∷ 5 ∷ 6 ∷ [])
     (wordBytes (0 ∷ 0 ∷ 4294967295 ∷ 0 ∷ 0 ∷ 0 ∷ 1 ∷ []))
-    ∷ accepts (fileOf (withThieves 8) (5 ∷ 6 ∷ []) (7 ∷ 0 ∷ [])) (withThieves 8) (5 ∷ 6 ∷ []) (7 ∷ 0 ∷ 0 ∷ 0 ∷ 0 ∷ 0 ∷ 0 ∷ 0 ∷ [])
-    ∷ accepts (fileOf example (5 ∷ 6 ∷ []) (0 ∷ 0 ∷ [])) example (5 ∷ 6 ∷ []) (replicate 8 0)
+    ∷ accepts (fileWith (withThieves 8) (5 ∷ 6 ∷ []) (7 ∷ 0 ∷ [])) (withThieves 8) (5 ∷ 6 ∷ []) (7 ∷ 0 ∷ 0 ∷ 0 ∷ 0 ∷ 0 ∷ 0 ∷ 0 ∷ [])
+    ∷ accepts (fileWith example (5 ∷ 6 ∷ []) (0 ∷ 0 ∷ [])) example (5 ∷ 6 ∷ []) (replicate 8 0)
     -- an operand just past its limit, or one of which only the lowest byte would be allowed
     ∷ refusesEntry 0 1 4
     ∷ refusesEntry 0 256 4
@@ -182,13 +185,13 @@ entries =
     ∷ refusesEntry 5 256 4
     ∷ refusesEntry 6 2 4
     ∷ refusesEntry 6 16777216 4
-    ∷ refuses (fileOf (withThieves 8) (0 ∷ 2 ∷ 5 ∷ 6 ∷ 5 ∷ []) (0 ∷ 9 ∷ 7 ∷ 8 ∷ 8 ∷ [])) 4 3
+    ∷ refuses (fileWith (withThieves 8) (0 ∷ 2 ∷ 5 ∷ 6 ∷ 5 ∷ []) (0 ∷ 9 ∷ 7 ∷ 8 ∷ 8 ∷ [])) 4 3
     -- within an entry the kind first; of the entries the first faulty one; the length before all of them
     ∷ refusesEntry 7 9 3
-    ∷ refuses (fileOf (withThieves 2) (0 ∷ 255 ∷ []) (0 ∷ 0 ∷ [])) 3 1
-    ∷ refuses (fileOf (withThieves 2) (2 ∷ 5 ∷ 7 ∷ []) (3 ∷ 2 ∷ 0 ∷ [])) 4 1
-    ∷ refuses (fileOf (withThieves 2) (2 ∷ 9 ∷ 5 ∷ []) (3 ∷ 0 ∷ 2 ∷ [])) 3 1
-    ∷ refuses (fileOf (withThieves 2) (7 ∷ []) (0 ∷ []) ++ (0 ∷ [])) 2 0
+    ∷ refuses (fileWith (withThieves 2) (0 ∷ 255 ∷ []) (0 ∷ 0 ∷ [])) 3 1
+    ∷ refuses (fileWith (withThieves 2) (2 ∷ 5 ∷ 7 ∷ []) (3 ∷ 2 ∷ 0 ∷ [])) 4 1
+    ∷ refuses (fileWith (withThieves 2) (2 ∷ 9 ∷ 5 ∷ []) (3 ∷ 0 ∷ 2 ∷ [])) 3 1
+    ∷ refuses (fileWith (withThieves 2) (7 ∷ []) (0 ∷ []) ++ (0 ∷ [])) 2 0
     -- a place that one of the arrays does not have
     ∷ noEntry 2 (0 ∷ []) (0 ∷ 0 ∷ 0 ∷ 0 ∷ []) 1 2 0
     ∷ noEntry 2 (0 ∷ []) (0 ∷ 0 ∷ 0 ∷ []) 0 2 0

@@ -11,7 +11,7 @@ use Rattle.machine.specs.Machine.{fresh}
 use Rattle.schedule.specs.Types.{Outcome, Ran, Running, Sizes, Tally}
 use Rattle.schedule.specs.Types.{BeginPut, BeginSteal, BeginTake, ClientStore, Drain, Entry, ThiefStep, WorkerStep}
 use Rattle.schedule.specs.declared.runner.Running.the-variants as running
-use Rattle.schedule.specs.Edges.{equal, exampleFile, refusedBy, sized}
+use Rattle.schedule.specs.Edges.{equal, exampleFile, fileWith, refusedBy, sized}
 use Rattle.terms.specs.Kinds.{kindOf, operandOf}
 use Rattle.schedule.specs.Format.{fileOf}
 use Rattle.schedule.specs.Run.{afterSteps, outcomesOfSteps, runFile, traceAfter}
@@ -138,8 +138,8 @@ ranRows =
     ∷ declines (file (sized 4 65 0 1 1 0) []) 0 1 1
     ∷ declines (file (sized 4 1 0 1 1 0) (ThiefStep 0 ∷ ThiefStep 1 ∷ [])) 0 4 1
     ∷ declines (exampleFile ++ (0 ∷ [])) 100 2 0
-    ∷ declines (fileOf (sized 4 1 0 1 1 0) (7 ∷ []) (0 ∷ [])) 0 3 0
-    ∷ declines (fileOf (sized 4 1 0 1 1 0) (7 ∷ []) (0 ∷ [])) 9 3 0
+    ∷ declines (fileWith (sized 4 1 0 1 1 0) (7 ∷ []) (0 ∷ [])) 0 3 0
+    ∷ declines (fileWith (sized 4 1 0 1 1 0) (7 ∷ []) (0 ∷ [])) 9 3 0
     ∷ []
 
 -- steps with totals that are not none, also at their largest, and each outcome counted
