@@ -7,7 +7,7 @@ use native.Mathlib.Nat.{mod-eq-of-lt, mod-lt, not-suc-le-zero}
 use native.Mathlib.Numerals.{add-one}
 use native.Mathlib.Omega.{arith}
 use lib.Dec.{lit<, ltb}
-use lib.ListN.{length, drop, getD, length-append, List·getD-append, take, length-drop}
+use lib.ListN.{length, drop, getD, length-append, List·getD-append, take, length-drop, length-replicate, replicate}
 use lib.Seq.{getD-at}
 use borrow.Author.Tests.{le-ltb, lt-ltb, ltb-false, ltb-true}
 use Rattle.terms.specs.Outcome.{valueOf}
@@ -30,8 +30,10 @@ use Rattle.schedule.specs.declared.runner.Running.the-variants as runnin
 use Rattle.schedule.specs.Entries.{checkEntries, entryAt}
 use Rattle.schedule.specs.Format.{allBelow, entriesIn, kindsIn, operandsIn, sizesIn, wordsIn}
 use Rattle.schedule.specs.Reader.{readFile}
-use Rattle.schedule.specs.Run.{entriesOf, entryMeant, outcomesIn, runFile, runningOf, scheduleIn}
+use Rattle.number.specs.Number.{overwritten}
+use Rattle.schedule.specs.Run.{entriesOf, entryMeant, outcomesIn, runFile, runningOf, scheduleIn, traceAfter, traceIf}
 use Rattle.schedule.specs.Totals.{countedFrom, tallyOf}
+use Rattle.schedule.specs.Trace.{traceOf}
 use Rattle.schedule.proofs.Laws.Bytes.{allBelow-drop}
 use Rattle.schedule.proofs.Laws.Check.{few-entries}
 use Rattle.schedule.proofs.Laws.Entries.{check-allowed, entries-passed, entry-as-read}
@@ -261,3 +263,18 @@ module _ (file : List ℕ) (room : ℕ) where
 
     pub run-with-room : 4 + 5 * n ≤ room → runFile file room ≡ Ran (tallyOf (outcomesIn file))
     run-with-room fits = ap (runningOf file room) told ∙ by-test (running.Refused Room) (Ran (tallyOf (outcomesIn file))) (le-ltb room (4 + 5 * n) fits)
+
+-- ── A run into the longest trace ────────────────────────────────────────────────────────────────────────────────────────────
+
+module _ (file : List ℕ) (s : Sizes) (n : ℕ) (accepted : readFile file ≡ Accepted s n) where
+  -- the longest trace has room for that of an accepted file ..
+  pub longest-fits : 4 + 5 * n ≤ length (replicate {A = ℕ} 20484 0)
+  longest-fits = rw (length-replicate {A = ℕ} 20484 0) (omega (arith, parts-obeyed file s n accepted .few))
+
+  -- .. so that the file is run ..
+  pub run-into-longest : runFile file (length (replicate {A = ℕ} 20484 0)) ≡ Ran (tallyOf (outcomesIn file))
+  run-into-longest = run-with-room file (length (replicate {A = ℕ} 20484 0)) s n accepted longest-fits
+
+  -- .. and the buffer holds the trace afterwards, and zeros beyond it
+  pub longest-after : {trace : List ℕ} → trace ≡ traceAfter file (replicate 20484 0) → trace ≡ overwritten 0 (traceOf (outcomesIn file)) (replicate 20484 0)
+  longest-after after = after ∙ ap (traceIf (traceOf (outcomesIn file)) (replicate 20484 0)) run-into-longest

@@ -1,32 +1,16 @@
 -- `same_runs` meets its contract: both traces fit, and what stands in them are the answers.
-use mathlib.Core.Path.{_≡_, ap, subst, sym, _∙_}
-use mathlib.Core.List.{List}
+use mathlib.Core.Path.{ap, subst, sym, _∙_}
 use Prim.Native.Nat.{ℕ, _+_, _*_, _≤_}
 use native.Mathlib.Omega.{arith}
 use borrow.Author.Needs.{needs}
-use lib.ListN.{length, length-replicate, replicate}
-use Rattle.comparison.specs.Types.{Accepted, Sizes}
+use lib.ListN.{replicate}
 use Rattle.comparison.specs.Comparison.{linesFrom}
-use Rattle.number.specs.Number.{overwritten}
-use Rattle.schedule.specs.Reader.{readFile}
-use Rattle.schedule.specs.Run.{outcomesIn, traceAfter, traceIf}
-use Rattle.schedule.specs.Trace.{traceOf}
 use Rattle.comparison.proofs.Laws.Alike.{lines-of-file, same-answers}
 use Rattle.schedule.proofs.Laws.Bytes.{each-below}
 use Rattle.schedule.proofs.Laws.Reader.{accepted-long}
-use Rattle.schedule.proofs.Laws.Run.{parts-obeyed, run-with-room}
+use Rattle.schedule.proofs.Laws.Run.{longest-after, longest-fits, parts-obeyed}
 use Rattle.comparison.proofs.likeness.same_runs.Statement.{statement}
 use Rattle.comparison.proofs.likeness.same_runs.Tie as tie
-
--- the longest trace has room for that of an accepted file
-room : (file : List ℕ) (s : Sizes) (n : ℕ) → readFile file ≡ Accepted s n → 4 + 5 * n ≤ length (replicate {A = ℕ} 20484 0)
-room file s n accepted = rw (length-replicate {A = ℕ} 20484 0) (omega (arith, parts-obeyed file s n accepted .few))
-
--- so it holds the trace afterwards, and zeros beyond it
-ran-into : (file trace : List ℕ) (s : Sizes) (n : ℕ) → readFile file ≡ Accepted s n → trace ≡ traceAfter file (replicate 20484 0)
-    → trace ≡ overwritten 0 (traceOf (outcomesIn file)) (replicate 20484 0)
-ran-into file trace s n accepted after =
-    after ∙ ap (traceIf (traceOf (outcomesIn file)) (replicate 20484 0)) (run-with-room file (length (replicate {A = ℕ} 20484 0)) s n accepted (room file s n accepted))
 
 same-for-all-requires : tie.Need-same-for-all-requires
 same-for-all-requires c κs =
@@ -38,12 +22,12 @@ same-for-all-requires c κs =
     let other-parts = parts-obeyed (a .other .now) (a .sizes) (a .others) (start .pre .1) in (
       (
         accepted-long (a .file .now) (a .sizes) (a .entries) (start .pre .0),
-        subst (λ k. 4 + 5 * a .entries ≤ k) (sym (first .run .kept .1 .0)) (room (a .file .now) (a .sizes) (a .entries) (start .pre .0)),
+        subst (λ k. 4 + 5 * a .entries ≤ k) (sym (first .run .kept .1 .0)) (longest-fits (a .file .now) (a .sizes) (a .entries) (start .pre .0)),
         parts .few,
       ),
       (
         accepted-long (a .other .now) (a .sizes) (a .others) (start .pre .1),
-        subst (λ k. 4 + 5 * a .others ≤ k) (sym (ran .run2 .kept .1 .0)) (room (a .other .now) (a .sizes) (a .others) (start .pre .1)),
+        subst (λ k. 4 + 5 * a .others ≤ k) (sym (ran .run2 .kept .1 .0)) (longest-fits (a .other .now) (a .sizes) (a .others) (start .pre .1)),
         other-parts .few,
       ),
     )
@@ -59,8 +43,8 @@ returns c =
     let other-bytes = each-below 256 (a .other .now) (λ i. omega (arith, first .before .before .shared-slice-known2 .given i)) in
     c .same-for-all .ensures
     ∙ same-answers (a .sizes .thieves) (a .entries) (a .file .now) (first .run .last .1 .0) (a .others) (a .other .now) (ran .run2 .last .1 .0)
-    (λ party. ap (λ t. linesFrom party (a .entries) (a .file .now) t 0) (ran-into (a .file .now) _ (a .sizes) (a .entries) (start .pre .0) (first .run .ensures .1 .0)) ∙ lines-of-file (a .file .now) zeros (a .sizes) (a .entries) (start .pre .0) bytes party)
-    (λ party. ap (λ t. linesFrom party (a .others) (a .other .now) t 0) (ran-into (a .other .now) _ (a .sizes) (a .others) (start .pre .1) (ran .run2 .ensures .1 .0)) ∙ lines-of-file (a .other .now) zeros (a .sizes) (a .others) (start .pre .1) other-bytes party)
+    (λ party. ap (λ t. linesFrom party (a .entries) (a .file .now) t 0) (longest-after (a .file .now) (a .sizes) (a .entries) (start .pre .0) (first .run .ensures .1 .0)) ∙ lines-of-file (a .file .now) zeros (a .sizes) (a .entries) (start .pre .0) bytes party)
+    (λ party. ap (λ t. linesFrom party (a .others) (a .other .now) t 0) (longest-after (a .other .now) (a .sizes) (a .others) (start .pre .1) (ran .run2 .ensures .1 .0)) ∙ lines-of-file (a .other .now) zeros (a .sizes) (a .others) (start .pre .1) other-bytes party)
 
 pub same-runs-spec : {M : Type 1} → statement M
 same-runs-spec =
