@@ -1,0 +1,17 @@
+-- `put_totals` meets its contract: each call puts one number into what the call before it left.
+use mathlib.Core.Path.{ap, _∙_}
+use borrow.Author.Needs.{needs}
+use Rattle.number.specs.Number.{wordPut}
+use Rattle.exports.proofs.answer.put_totals.Statement.{statement}
+use Rattle.exports.proofs.answer.put_totals.Tie as tie
+
+returns : tie.Need-returns
+returns c =
+    let third = c .before .before in
+    let second = third .before .before .before .before in
+    let first = second .before .before .before .before in
+    let tally = first .before .before .before .args .tally in
+    third .put-word3 .ensures ∙ ap (wordPut 8 (tally .waits)) (second .put-word2 .ensures ∙ ap (wordPut 4 (tally .aborts)) (first .put-word .ensures))
+
+pub put-totals-spec : {M : Type 1} → statement M
+put-totals-spec = tie.close (tie.spec (λ c κs. search needs) (λ c κs. search needs) (λ c κs. search needs) (λ c. search needs) returns)

@@ -1,0 +1,68 @@
+-- What a door answers, and what lent memory holds afterwards. Numbers and places are those of "The numbers, by who can cause them" in the scope paper, 01.
+use mathlib.Core.List.{List, [], _∷_}
+use Prim.Native.Nat.{ℕ, _+_, _*_, _%_}
+use Rattle.terms.specs.Refusal.{numberOf, placeOf}
+use Rattle.schedule.specs.declared.reader.Reading.the-variants as reading
+use Rattle.schedule.specs.declared.runner.Running.the-variants as running
+use Rattle.writer.specs.declared.writer.Writing.the-variants as writing
+use Rattle.number.specs.Number.{wordPut}
+use Rattle.exports.specs.Types.{Accepted, Alike, FirstRefused, Likeness, NotAlike, Ran, Reading, Refusal, Running, SecondRefused, Sizes, Tally, Writing, Written}
+
+-- a refusal as one number of 64 bits: its number in the upper half, its place in the lower, which has room for every place of a file
+abbrev pub refusalAnswer : Refusal → ℕ
+refusalAnswer r = numberOf r * 4294967296 + placeOf r % 4294967296
+
+-- numbers put one behind the other into lent bytes, four bytes each, the least significant first; one that does not fit is left out
+abbrev pub wordsPut : ℕ → List ℕ → List ℕ → List ℕ
+wordsPut at [] bytes = bytes
+wordsPut at (n ∷ ns) bytes = wordsPut (at + 4) ns (wordPut at n bytes)
+
+-- ── Reading ─────────────────────────────────────────────────────────────────────────────────────────────────────────────────
+
+-- the number of entries, or the refusal
+abbrev pub readingAnswer : Reading → ℕ
+readingAnswer (Accepted s entries) = entries
+readingAnswer (reading.Refused r) = refusalAnswer r
+
+-- six sizes in the order of the file, as written there
+abbrev pub sizesPut : Sizes → List ℕ → List ℕ
+sizesPut s bytes = wordsPut 0 (s .slots ∷ s .buffer ∷ s .spacing ∷ s .margin ∷ s .thieves ∷ s .start ∷ []) bytes
+
+abbrev pub sizesAfter : Reading → List ℕ → List ℕ
+sizesAfter (Accepted s entries) bytes = sizesPut s bytes
+sizesAfter (reading.Refused r) bytes = bytes
+
+-- ── Running ─────────────────────────────────────────────────────────────────────────────────────────────────────────────────
+
+-- 0, or the refusal
+abbrev pub runningAnswer : Running → ℕ
+runningAnswer (Ran t) = 0
+runningAnswer (running.Refused r) = refusalAnswer r
+
+-- three totals in the order of the program's last line
+abbrev pub totalsPut : Tally → List ℕ → List ℕ
+totalsPut t bytes = wordsPut 0 (t .given ∷ t .aborts ∷ t .waits ∷ []) bytes
+
+abbrev pub totalsAfter : Running → List ℕ → List ℕ
+totalsAfter (Ran t) bytes = totalsPut t bytes
+totalsAfter (running.Refused r) bytes = bytes
+
+-- ── Comparing ───────────────────────────────────────────────────────────────────────────────────────────────────────────────
+
+-- 1 for alike, 0 for not alike, or the refusal of the file that decides
+abbrev pub likenessAnswer : Likeness → ℕ
+likenessAnswer Alike = 1
+likenessAnswer NotAlike = 0
+likenessAnswer (FirstRefused r) = refusalAnswer r
+likenessAnswer (SecondRefused r) = refusalAnswer r
+
+-- ── Writing ─────────────────────────────────────────────────────────────────────────────────────────────────────────────────
+
+-- six numbers as sizes
+abbrev pub sizesOf : ℕ → ℕ → ℕ → ℕ → ℕ → ℕ → Sizes
+sizesOf slots buffer spacing margin thieves start = record { slots = slots; buffer = buffer; spacing = spacing; margin = margin; thieves = thieves; start = start }
+
+-- how many bytes the file has, or the refusal
+abbrev pub writingAnswer : Writing → ℕ
+writingAnswer (Written n) = n
+writingAnswer (writing.Refused r) = refusalAnswer r

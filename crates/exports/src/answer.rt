@@ -1,0 +1,35 @@
+ghost use mathlib.Core.Path.{_≡_};
+ghost use Rattle.exports.specs.Answer.{refusalAnswer, sizesPut, totalsPut};
+use number::put_word;
+use terms::Refusal;
+use terms::Sizes;
+use terms::Tally;
+
+// A refusal as the number that a door answers.
+pub(crate) fn answer_of(refusal: Refusal) -> u64
+    ensures { λ r. ⌜ r ≡ refusalAnswer refusal ⌝ }
+{
+    let place = refusal.place() as u64;
+    refusal.number() as u64 * 4294967296 + place % 4294967296
+}
+
+// Puts six sizes into lent memory.
+pub(crate) fn put_sizes(bytes: &mut [u8], sizes: Sizes)
+    ensures { λ _. ⌜ now (bytes .exit) ≡ sizesPut sizes (now (bytes .entry)) ⌝ }
+{
+    put_word(bytes, 0, sizes.slots);
+    put_word(bytes, 4, sizes.buffer);
+    put_word(bytes, 8, sizes.spacing);
+    put_word(bytes, 12, sizes.margin);
+    put_word(bytes, 16, sizes.thieves);
+    put_word(bytes, 20, sizes.start);
+}
+
+// Puts three totals into lent memory.
+pub(crate) fn put_totals(bytes: &mut [u8], tally: Tally)
+    ensures { λ _. ⌜ now (bytes .exit) ≡ totalsPut tally (now (bytes .entry)) ⌝ }
+{
+    put_word(bytes, 0, tally.given);
+    put_word(bytes, 4, tally.aborts);
+    put_word(bytes, 8, tally.waits);
+}

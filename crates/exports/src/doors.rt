@@ -1,0 +1,106 @@
+ghost use mathlib.Core.Path.{_≡_};
+ghost use lib.ListN.{length};
+ghost use Rattle.comparison.specs.Alike.{likeness};
+ghost use Rattle.schedule.specs.Reader.{readFile};
+ghost use Rattle.schedule.specs.Run.{runFile, traceAfter};
+ghost use Rattle.terms.specs.Sizes.{neededMargin};
+ghost use Rattle.writer.specs.Writer.{bufferAfter, writeFile};
+ghost use Rattle.exports.specs.Answer.{likenessAnswer, readingAnswer, runningAnswer, sizesAfter, sizesOf, totalsAfter, writingAnswer};
+use crate::answer::answer_of;
+use crate::answer::put_sizes;
+use crate::answer::put_totals;
+use comparison::Likeness;
+use comparison::alike;
+use schedule::Reading;
+use schedule::Running;
+use schedule::read;
+use schedule::refusal_of;
+use schedule::run;
+use terms::Sizes;
+use terms::needed_margin;
+use writer::Writing;
+use writer::write;
+
+// Reads a schedule file. Tells the number of its entries, and puts its six sizes, as written, into 24 bytes.
+#[no_mangle]
+pub extern "C" fn rehearsal_read(file: &[u8], sizes: &mut [u8]) -> u64
+    ensures { λ r. ⌜ r ≡ readingAnswer (readFile (now (file .entry))) ⌝ }
+    ensures { λ _. ⌜ now (sizes .exit) ≡ sizesAfter (readFile (now (file .entry))) (now (sizes .entry)) ⌝ }
+{
+    let reading = read(file);
+    let Reading::Accepted(found, entries) = reading else {
+        return answer_of(refusal_of(reading));
+    };
+    put_sizes(sizes, found);
+    entries as u64
+}
+
+// Runs a schedule file and writes its trace. Tells 0, and puts the totals, given, aborts and waits, into 12 bytes.
+#[no_mangle]
+pub extern "C" fn rehearsal_run(file: &[u8], trace: &mut [u8], totals: &mut [u8]) -> u64
+    ensures { λ r. ⌜ r ≡ runningAnswer (runFile (now (file .entry)) (length (now (trace .entry)))) ⌝ }
+    ensures { λ _. ⌜ now (trace .exit) ≡ traceAfter (now (file .entry)) (now (trace .entry)) ⌝ }
+    ensures { λ _. ⌜ now (totals .exit) ≡ totalsAfter (runFile (now (file .entry)) (length (now (trace .entry)))) (now (totals .entry)) ⌝ }
+{
+    let running = run(file, trace);
+    match running {
+        Running::Ran(tally) => {
+            put_totals(totals, tally);
+            0
+        }
+        Running::Refused(refusal) => answer_of(refusal),
+    }
+}
+
+// Compares two schedule files. Tells 1 where they are alike, and 0 where they are not.
+#[no_mangle]
+pub extern "C" fn rehearsal_alike(first: &[u8], second: &[u8]) -> u64
+    ensures { λ r. ⌜ r ≡ likenessAnswer (likeness (now (first .entry)) (now (second .entry))) ⌝ }
+{
+    let found = alike(first, second);
+    match found {
+        Likeness::Alike => 1,
+        Likeness::NotAlike => 0,
+        Likeness::FirstRefused(refusal) => answer_of(refusal),
+        Likeness::SecondRefused(fault) => answer_of(fault),
+    }
+}
+
+// Writes the file of six sizes, kinds and operands. Tells how many bytes the file has.
+#[no_mangle]
+pub extern "C" fn rehearsal_write(
+    slots: u32,
+    buffer: u32,
+    spacing: u32,
+    margin: u32,
+    thieves: u32,
+    start: u32,
+    kinds: &[u8],
+    operands: &[u32],
+    file: &mut [u8],
+) -> u64
+    ensures { λ r. ⌜ r ≡ writingAnswer (writeFile (sizesOf slots buffer spacing margin thieves start) (now (kinds .entry)) (now (operands .entry)) (length (now (file .entry)))) ⌝ }
+    ensures { λ _. ⌜ now (file .exit) ≡ bufferAfter (sizesOf slots buffer spacing margin thieves start) (now (kinds .entry)) (now (operands .entry)) (now (file .entry)) ⌝ }
+{
+    let sizes = Sizes {
+        slots: slots,
+        buffer: buffer,
+        spacing: spacing,
+        margin: margin,
+        thieves: thieves,
+        start: start,
+    };
+    let writing = write(sizes, kinds, operands, file);
+    match writing {
+        Writing::Written(bytes) => bytes as u64,
+        Writing::Refused(refusal) => answer_of(refusal),
+    }
+}
+
+// The margin that a buffer of this size needs where takes are spaced so far apart.
+#[no_mangle]
+pub extern "C" fn rehearsal_needed_margin(buffer: u32, spacing: u32) -> u32
+    ensures { λ r. ⌜ r ≡ neededMargin buffer spacing ⌝ }
+{
+    needed_margin(buffer, spacing)
+}
