@@ -1,0 +1,80 @@
+-- Laws of a file's lines: those of its entries as a trace has them, and that the place of a refusal is a number of 32 bits.
+use mathlib.Core.Path.{_≡_, refl, ap, sym, _∙_}
+use mathlib.Core.Bool.{Bool, true, false, not, false≢true, _&&_}
+use mathlib.Core.List.{List, [], _∷_, _++_}
+use Prim.Native.Nat.{ℕ, zero, suc, _+_, _≤_, _<_, suc-le-suc}
+use native.Mathlib.Nat.{add-zero, zero-add, zero-lt-suc}
+use native.Mathlib.Numerals.{add-one}
+use native.Mathlib.Omega.{arith}
+use lib.Dec.{leb, lit<, ltb}
+use lib.ListN.{length, getD}
+use borrow.Author.Tests.{ltb-true}
+use Rattle.terms.specs.Refusal.{placeOf}
+use Rattle.terms.specs.declared.outcome.Outcome.the-variants.{Moved}
+use Rattle.terms.specs.declared.refusal.Refusal.the-variants.{Size, Short, Kind, Who, Room}
+use Rattle.terms.proofs.Laws.Tests.{both-left}
+use Rattle.machine.specs.Lists.{gather, upFrom}
+use Rattle.machine.specs.Machine.{fresh}
+use Rattle.machine.proofs.Laws.Lists.{all-getD}
+use Rattle.number.specs.Number.{overwritten}
+use Rattle.schedule.specs.declared.reader.Reading.the-variants as reading
+use Rattle.schedule.specs.Check.{sizesKept}
+use Rattle.schedule.specs.Faults.{fileHas, operandAllowed}
+use Rattle.schedule.specs.Format.{allBelow, decode, entriesIn, kindsIn, layout, operandsIn, sizesIn}
+use Rattle.schedule.specs.Reader.{readFile}
+use Rattle.schedule.specs.Run.{outcomesIn, scheduleIn}
+use Rattle.schedule.specs.Trace.{traceOf}
+use Rattle.schedule.proofs.Faults.{reader-refuses-faults}
+use Rattle.schedule.proofs.Laws.Format.{decode-below}
+use Rattle.schedule.proofs.Laws.Run.{file-values-fit, length-outcomesOf, schedule-length}
+use Rattle.schedule.proofs.Laws.Trace.{lineIn-written}
+use Rattle.lines.specs.Types.{Accepted, Outcome, Refusal, Sizes}
+use Rattle.lines.specs.Lines.{entryLine, entryLines, threeNumbers, traceLine, traceLines}
+
+-- ── The lines of the entries ────────────────────────────────────────────────────────────────────────────────────────────────
+
+-- lines that are gathered by the numbers of the entries, each that of its outcome, are the lines of the outcomes
+gather-lines : (f : ℕ → List ℕ) (os : List Outcome) (k : ℕ)
+    → ((i : ℕ) → i < length os → f (k + i) ≡ entryLine (k + i) (getD os i Moved)) → gather f (upFrom k (length os)) ≡ entryLines k os
+gather-lines f [] k same = refl
+gather-lines f (o ∷ os) k same =
+    let first : f k ≡ entryLine k o = rw add-zero at (same 0 (zero-lt-suc (length os))) in
+    let next : (i : ℕ) → k + suc i ≡ suc k + i = λ i. omega arith in
+    let others = gather-lines f os (suc k) (λ i there. rw (next i) at (same (suc i) (suc-le-suc there))) in
+    λ i. first i ++ (others ∙ ap (λ j. entryLines j os) (sym (add-one k))) i
+
+-- the lines of all entries, from the trace of an accepted file
+pub trace-lines : (file l : List ℕ) (s : Sizes) (n : ℕ) → readFile file ≡ Accepted s n → allBelow 256 file ≡ true
+    → traceLines n (overwritten 0 (traceOf (outcomesIn file)) l) ≡ entryLines 0 (outcomesIn file)
+trace-lines file l s n accepted bytes =
+    let os = outcomesIn file in
+    let trace = overwritten 0 (traceOf os) l in
+    let as-many : length os ≡ n = length-outcomesOf (fresh (sizesIn file)) (scheduleIn file) ∙ schedule-length file s n accepted in
+    ap (λ k. traceLines k trace) (sym as-many)
+    ∙ gather-lines (traceLine (length os) trace) os 0
+    (λ i there. ap (λ k. traceLine (length os) trace k) (zero-add i) ∙ ap (λ line. threeNumbers i (line .number) (line .value)) (lineIn-written os l i (file-values-fit file bytes) there) ∙ ap (λ k. entryLine k (getD os i Moved)) (sym (zero-add i)))
+
+-- ── The place of a refusal ──────────────────────────────────────────────────────────────────────────────────────────────────
+
+-- a test that is not passed stands in its list
+inside : (tests : List Bool) (i : ℕ) → not (getD tests i true) ≡ true → i < length tests
+inside [] i p = absurd (false≢true p)
+inside (t ∷ tests) zero p = zero-lt-suc (length tests)
+inside (t ∷ tests) (suc i) p = suc-le-suc (inside tests i p)
+
+-- the number of entries that a file says is a number of four bytes
+entries-fit : (file : List ℕ) → allBelow 256 file ≡ true → entriesIn file < 4294967296
+entries-fit file bytes = ltb-true (entriesIn file) 4294967296 (all-getD (λ n. ltb n 4294967296) (decode (layout 0) file) 6 0 refl (decode-below 7 4 file bytes))
+
+pub place-fits : (file : List ℕ) → allBelow 256 file ≡ true → (r : Refusal) → readFile file ≡ reading.Refused r → placeOf r < 4294967296
+place-fits file bytes r told = go r (reader-refuses-faults file r .0 told)
+  where
+    of-entry : (at : ℕ) (b : Bool) → (ltb at (entriesIn file) && b) ≡ true → at < 4294967296
+    of-entry at b p = omega (arith, ltb-true at (entriesIn file) (both-left (ltb at (entriesIn file)) b p), entries-fit file bytes)
+
+    go : (r : Refusal) → fileHas file r ≡ true → placeOf r < 4294967296
+    go (Size place) p = omega (arith, inside (sizesKept (sizesIn file) (entriesIn file)) place p)
+    go Short p = omega arith
+    go (Kind at) p = of-entry at _ p
+    go (Who at) p = of-entry at _ p
+    go Room p = omega arith

@@ -1,0 +1,63 @@
+-- Laws of text that is put piece by piece, each right behind the one before: digits, and what is gathered over places.
+use mathlib.Core.Path.{_≡_, refl, ap, _∙_}
+use mathlib.Core.Bool.{true}
+use mathlib.Core.List.{List, [], _∷_, _++_, append-nil}
+use Prim.Native.Nat.{ℕ, zero, suc, _+_, _≤_, _<_}
+use native.Mathlib.Nat.{le-of-suc-le-suc, not-suc-le-zero}
+use native.Mathlib.Numerals.{add-one}
+use native.Mathlib.Omega.{arith}
+use lib.Dec.{ltb}
+use lib.ListN.{length, getD, length-append, take}
+use lib.Seq.{take-suc}
+use borrow.Author.Tests.{ltb-true}
+use Rattle.terms.proofs.Laws.Tests.{both-left, both-right}
+use Rattle.machine.specs.Lists.{all, gather, upTo}
+use Rattle.machine.proofs.Laws.Sums.{gather-append, upTo-suc}
+use Rattle.number.specs.Number.{overwritten}
+use Rattle.number.proofs.Laws.Overwritten.{overwritten-behind, overwritten-nothing}
+use Rattle.lines.specs.Text.{units}
+
+-- A piece was put at a place: what is there afterwards, and where the piece ends.
+pub record Put (at : ℕ) (new before after : List ℕ) (end : ℕ) : Type 0 where
+  pub there : after ≡ overwritten at new before
+  pub ends : end ≡ at + length new
+
+pub put-nothing : (at : ℕ) (l : List ℕ) → Put at [] l l at
+put-nothing at l = record { there = overwritten-nothing at l; ends = omega arith }
+
+-- A piece right behind another makes one piece with it.
+pub put-more : (at : ℕ) (new more before : List ℕ) → at ≤ length before → {mid after : List ℕ} {end last : ℕ}
+    → Put at new before mid end → last ≡ end + length more → after ≡ overwritten end more mid → Put at (new ++ more) before after last
+put-more at new more before inside p ended put =
+    record {
+      there = put ∙ (λ i. overwritten (p .ends i) more (p .there i)) ∙ overwritten-behind at new before more inside;
+      ends = ended ∙ omega (arith, p .ends, length-append new more);
+    }
+
+-- a piece by another name
+pub put-as : (at : ℕ) (before : List ℕ) {new other after : List ℕ} {end : ℕ} → new ≡ other → Put at new before after end → Put at other before after end
+put-as at before same p =
+    record { there = p .there ∙ ap (λ l. overwritten at l before) same; ends = p .ends ∙ ap (λ l. at + length l) same }
+
+-- ── What is gathered over places ────────────────────────────────────────────────────────────────────────────────────────────
+
+module _ {A : Type 0} (f : A → List ℕ) where
+  gather-snoc : (l : List A) (x : A) → gather f (l ++ (x ∷ [])) ≡ gather f l ++ f x
+  gather-snoc l x = gather-append f l (x ∷ []) ∙ ap (λ r. gather f l ++ r) (append-nil (f x))
+
+  pub gather-more : (l : List A) (d : A) (k : ℕ) → k < length l → gather f (take (k + 1) l) ≡ gather f (take k l) ++ f (getD l k d)
+  gather-more l d k there = rw (add-one, take-suc l k d there) (gather-snoc (take k l) (getD l k d))
+
+pub gather-next : (f : ℕ → List ℕ) (n : ℕ) → gather f (upTo (n + 1)) ≡ gather f (upTo n) ++ f n
+gather-next f n = ap (gather f) (upTo-suc n) ∙ gather-snoc f (upTo n) n
+
+-- ── Units ───────────────────────────────────────────────────────────────────────────────────────────────────────────────────
+
+-- no place counts nothing
+positive : (us : List ℕ) → all (λ unit. ltb 0 unit) us ≡ true → (k : ℕ) → k < length us → 0 < getD us k 0
+positive [] p k h = absurd (not-suc-le-zero h)
+positive (unit ∷ us) p zero h = ltb-true 0 unit (both-left (ltb 0 unit) (all (λ u. ltb 0 u) us) p)
+positive (unit ∷ us) p (suc k) h = positive us (both-right (ltb 0 unit) (all (λ u. ltb 0 u) us) p) k (le-of-suc-le-suc h)
+
+pub unit-positive : (k : ℕ) → k < 10 → 0 < getD units k 0
+unit-positive k h = positive units refl k h

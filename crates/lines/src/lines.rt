@@ -1,0 +1,166 @@
+ghost use mathlib.Core.Path.{_≡_};
+ghost use Prim.Native.Nat.{_+_, _*_, _≤_, _<_};
+ghost use lib.ListN.{length, replicate};
+ghost use Rattle.number.specs.Number.{overwritten};
+ghost use Rattle.schedule.specs.Reader.{readFile};
+ghost use Rattle.lines.specs.Lines.{linesOf, marginWord, refusalLine, sizesLine, threeNumbers, totalsLine, traceLines};
+ghost use Rattle.lines.specs.Types.{Accepted};
+ghost use Rattle.terms.specs.Refusal.{placeOf};
+use crate::text::put_number;
+use crate::text::put_word;
+use number::word_at;
+use schedule::Reading;
+use schedule::Running;
+use schedule::read;
+use schedule::refusal_of;
+use schedule::run;
+use terms::Refusal;
+use terms::Sizes;
+use terms::Tally;
+use terms::needed_margin;
+
+// The bytes of the longest trace, that of 4,096 entries.
+const LONGEST_TRACE: usize = 20484;
+
+// At least as many bytes as the longest text has: a number and the byte behind it take at most 11, so the first line takes at most 73, each
+// of 4,096 entries 33, and the last line 52.
+pub const LONGEST_TEXT: usize = 135293;
+
+// The byte between two numbers or words, and the one behind a line.
+const SPACE: u8 = 32;
+
+const NEWLINE: u8 = 10;
+
+// Lines as text.
+pub struct Text {
+    // The text stands at the front; zeros are behind it.
+    pub bytes: [u8; LONGEST_TEXT],
+    // How many bytes it has.
+    pub length: usize,
+}
+
+// Puts the word that ends the first line: whether the margin in use is enough. Answers where it ends.
+fn put_margin_word(text: &mut [u8], at: usize, sizes: Sizes) -> usize
+    requires { ⌜ at + 7 ≤ length (now text) ⌝ }
+    ensures { λ r. ⌜ (r ≡ at + length (marginWord sizes)) × (r ≤ at + 7) ⌝ }
+    ensures { λ _. ⌜ now (text .exit) ≡ overwritten at (marginWord sizes) (now (text .entry)) ⌝ }
+{
+    if needed_margin(sizes.buffer, sizes.spacing) <= sizes.margin_in_use() {
+        return put_word(text, at, b"enough\n");
+    }
+    put_word(text, at, b"short\n")
+}
+
+// Puts the first line, at the front. Answers where it ends.
+fn put_sizes(text: &mut [u8], sizes: Sizes) -> usize
+    requires { ⌜ 73 ≤ length (now text) ⌝ }
+    ensures { λ r. ⌜ (r ≡ length (sizesLine sizes)) × (r ≤ 73) ⌝ }
+    ensures { λ _. ⌜ now (text .exit) ≡ overwritten 0 (sizesLine sizes) (now (text .entry)) ⌝ }
+{
+    let margin = sizes.margin_in_use();
+    let mut end = put_number(text, 0, sizes.slots, SPACE);
+    end = put_number(text, end, sizes.buffer, SPACE);
+    end = put_number(text, end, sizes.spacing, SPACE);
+    end = put_number(text, end, margin, SPACE);
+    end = put_number(text, end, sizes.thieves, SPACE);
+    end = put_number(text, end, sizes.start, SPACE);
+    put_margin_word(text, end, sizes)
+}
+
+// Puts the line of an entry, by its number and what a trace has of it. Answers where the line ends.
+fn put_entry(text: &mut [u8], at: usize, entry: u32, outcome: u8, value: u32) -> usize
+    requires { ⌜ at + 33 ≤ length (now text) ⌝ }
+    ensures { λ r. ⌜ (r ≡ at + length (threeNumbers entry outcome value)) × (r ≤ at + 33) ⌝ }
+    ensures { λ _. ⌜ now (text .exit) ≡ overwritten at (threeNumbers entry outcome value) (now (text .entry)) ⌝ }
+{
+    let mut end = put_number(text, at, entry, SPACE);
+    end = put_number(text, end, outcome as u32, SPACE);
+    put_number(text, end, value, NEWLINE)
+}
+
+// Puts the lines of all entries of a trace. Answers where they end.
+fn put_entries(text: &mut [u8], from: usize, entries: usize, trace: &[u8]) -> usize
+    requires { ⌜ (from + 33 * entries ≤ length (now text)) × (4 + 5 * entries ≤ length (now trace)) × (entries ≤ 4096) ⌝ }
+    ensures { λ r. ⌜ (r ≡ from + length (traceLines entries (now (trace .entry)))) × (r ≤ from + 33 * entries) ⌝ }
+    ensures { λ _. ⌜ now (text .exit) ≡ overwritten from (traceLines entries (now (trace .entry))) (now (text .entry)) ⌝ }
+{
+    let mut end = from;
+    let mut at = 0;
+    while at < entries {
+        let value = word_at(trace, 4 + entries + 4 * at);
+        end = put_entry(text, end, at as u32, trace[4 + at], value);
+        at += 1;
+    }
+    end
+}
+
+// Puts the last line. Answers where it ends.
+fn put_totals(text: &mut [u8], at: usize, tally: Tally) -> usize
+    requires { ⌜ at + 52 ≤ length (now text) ⌝ }
+    ensures { λ r. ⌜ (r ≡ at + length (totalsLine tally)) × (r ≤ at + 52) ⌝ }
+    ensures { λ _. ⌜ now (text .exit) ≡ overwritten at (totalsLine tally) (now (text .entry)) ⌝ }
+{
+    let mut end = put_word(text, at, b"given ");
+    end = put_number(text, end, tally.given, SPACE);
+    end = put_word(text, end, b"aborts ");
+    end = put_number(text, end, tally.aborts, SPACE);
+    end = put_word(text, end, b"waits ");
+    put_number(text, end, tally.waits, NEWLINE)
+}
+
+// Puts the line of a refused file, at the front. Answers where it ends.
+fn put_refusal(text: &mut [u8], refusal: Refusal) -> usize
+    requires { ⌜ (36 ≤ length (now text)) × (placeOf refusal < 4294967296) ⌝ }
+    ensures { λ r. ⌜ (r ≡ length (refusalLine refusal)) × (r ≤ 36) ⌝ }
+    ensures { λ _. ⌜ now (text .exit) ≡ overwritten 0 (refusalLine refusal) (now (text .entry)) ⌝ }
+{
+    let number = refusal.number();
+    let place = refusal.place();
+    let mut end = put_word(text, 0, b"refused ");
+    end = put_number(text, end, number as u32, SPACE);
+    end = put_word(text, end, b"place ");
+    put_number(text, end, place as u32, NEWLINE)
+}
+
+// Puts the lines of a file that was read. Answers where they end.
+fn put_run(text: &mut [u8], file: &[u8], sizes: Sizes, entries: usize) -> usize
+    requires { ⌜ (135293 ≤ length (now text)) × (readFile (now file) ≡ Accepted sizes entries) ⌝ }
+    ensures { λ r. ⌜ (r ≡ length (linesOf (now (file .entry)))) × (r ≤ 135293) ⌝ }
+    ensures { λ _. ⌜ now (text .exit) ≡ overwritten 0 (linesOf (now (file .entry))) (now (text .entry)) ⌝ }
+{
+    let mut trace = [0; LONGEST_TRACE];
+    let running = run(file, &mut trace);
+    let Running::Ran(tally) = running else {
+        // Not reached: the file was read, and every trace fits.
+        return 0;
+    };
+    let first = put_sizes(text, sizes);
+    let last = put_entries(text, first, entries, &trace);
+    put_totals(text, last, tally)
+}
+
+// Puts what the program prints of a file. Answers where it ends.
+fn put_lines(text: &mut [u8], file: &[u8]) -> usize
+    requires { ⌜ 135293 ≤ length (now text) ⌝ }
+    ensures { λ r. ⌜ (r ≡ length (linesOf (now (file .entry)))) × (r ≤ 135293) ⌝ }
+    ensures { λ _. ⌜ now (text .exit) ≡ overwritten 0 (linesOf (now (file .entry))) (now (text .entry)) ⌝ }
+{
+    let reading = read(file);
+    let Reading::Accepted(sizes, entries) = reading else {
+        return put_refusal(text, refusal_of(reading));
+    };
+    put_run(text, file, sizes, entries)
+}
+
+// What the program prints of a file.
+pub fn lines_of(file: &[u8]) -> Text
+    ensures { λ r. ⌜ (r .length ≡ length (linesOf (now (file .entry)))) × (r .length ≤ length (r .bytes)) ⌝ }
+    ensures { λ r. ⌜ r .bytes ≡ overwritten 0 (linesOf (now (file .entry))) (replicate 135293 0) ⌝ }
+{
+    let mut bytes = [0; LONGEST_TEXT];
+    let length = put_lines(&mut bytes, file);
+    Text {
+        bytes: bytes,
+        length: length,
+    }
+}
