@@ -1,0 +1,227 @@
+//! Entries per second of both implementations, on the same files in the same
+//! process, one run of each in turn.
+
+use std::hint::black_box;
+use std::time::{Duration, Instant};
+
+use comparing::checks::trace_room;
+use comparing::generate::{flavoured, Flavour, BALANCED, CROWDED, LATE, STUBBORN};
+use comparing::random::Random;
+use comparing::schedule::number_at;
+use comparing::sides::{Side, PROVED, REFERENCE};
+
+const LENGTHS: [usize; 5] = [256, 512, 1024, 2048, 4096];
+/// Odd, so that the median is one of the rounds.
+const ROUNDS: usize = 11;
+/// The least time that a side spends in one round.
+const ROUND: Duration = Duration::from_millis(20);
+const WARM_UP: Duration = Duration::from_millis(40);
+/// Entries in all files of one length together. A processor learns the turns
+/// of a single short schedule by heart; many different ones cost what they cost.
+const ENTRIES_TOGETHER: usize = 32_768;
+
+struct Load {
+    name: &'static str,
+    sizes: [u32; 6],
+    flavour: Flavour,
+}
+
+const LOADS: [Load; 4] = [
+    Load {
+        name: "balanced",
+        sizes: [64, 8, 0, 0, 2, 0],
+        flavour: BALANCED,
+    },
+    Load {
+        name: "deep buffer",
+        sizes: [256, 64, 1, 0, 1, 0],
+        flavour: LATE,
+    },
+    Load {
+        name: "many thieves",
+        sizes: [64, 4, 0, 0, 8, 0],
+        flavour: CROWDED,
+    },
+    Load {
+        name: "waits",
+        sizes: [16, 1, 0, 0, 4, 0],
+        flavour: STUBBORN,
+    },
+];
+
+/// Files of one load and length, measured.
+struct Measured {
+    load: &'static str,
+    entries: usize,
+    /// Entries that wait, out of a hundred.
+    waits: f64,
+    /// Nanoseconds an entry, a round each.
+    proved: Vec<f64>,
+    reference: Vec<f64>,
+    ratios: Vec<f64>,
+}
+
+fn main() {
+    print_head();
+    let mut all = Vec::new();
+    for load in &LOADS {
+        for entries in LENGTHS {
+            let measured = measure(load, entries);
+            print_row(&measured);
+            all.push(measured);
+        }
+    }
+    print_growth(&all);
+    let mut ratios: Vec<f64> = all.iter().map(|one| median(&one.ratios)).collect();
+    ratios.sort_by(f64::total_cmp);
+    println!(
+        "median ratio over all loads and lengths: {:.2} (proved time / reference time)",
+        median(&ratios)
+    );
+}
+
+fn print_head() {
+    println!("Each run is one call that reads a file, obeys its entries on a fresh machine and");
+    println!("writes trace and totals. Before each run, outside of the time taken, trace and");
+    println!("totals are filled with a pattern. Files stay in the cache as far as they fit;");
+    println!("nothing else is carried from one run to the next.");
+    println!(
+        "For each load and length there are as many different files as make {ENTRIES_TOGETHER}"
+    );
+    println!("entries. {ROUNDS} rounds, proved and reference in turn, each whole passes over all");
+    println!("files for at least {ROUND:?}. Figures are medians of the rounds, the spread is that");
+    println!(
+        "of the rounds' ratios. The two clock readings of a run cost about {:.0} ns, included.",
+        clock_cost()
+    );
+    println!();
+    println!(
+        "{:<13}{:>8}{:>8}{:>11}{:>11}{:>10}{:>10}{:>8}  spread",
+        "load", "entries", "waits", "proved", "reference", "proved", "reference", "ratio"
+    );
+    println!(
+        "{:<13}{:>8}{:>8}{:>11}{:>11}{:>10}{:>10}",
+        "", "", "%", "ns/entry", "ns/entry", "M/s", "M/s"
+    );
+}
+
+/// The median time between two readings of the clock with nothing in between.
+fn clock_cost() -> f64 {
+    let readings = (0..1001).map(|_| Instant::now().elapsed().as_nanos() as f64);
+    median(&readings.collect::<Vec<_>>())
+}
+
+fn measure(load: &Load, entries: usize) -> Measured {
+    let files = files(load, entries);
+    let waits: u32 = files.iter().map(|file| check(file, entries)).sum();
+    for side in [&PROVED, &REFERENCE] {
+        round(side, &files, entries, WARM_UP);
+    }
+    let mut measured = Measured {
+        load: load.name,
+        entries,
+        waits: 100.0 * f64::from(waits) / ENTRIES_TOGETHER as f64,
+        proved: Vec::new(),
+        reference: Vec::new(),
+        ratios: Vec::new(),
+    };
+    for _ in 0..ROUNDS {
+        let proved = round(&PROVED, &files, entries, ROUND);
+        let reference = round(&REFERENCE, &files, entries, ROUND);
+        measured.proved.push(proved);
+        measured.reference.push(reference);
+        measured.ratios.push(proved / reference);
+    }
+    measured
+}
+
+/// The same files at every run of this program.
+fn files(load: &Load, entries: usize) -> Vec<Vec<u8>> {
+    let mut random = Random::new(entries as u64);
+    let count = ENTRIES_TOGETHER / entries;
+    let mut file = || flavoured(load.sizes, load.flavour, entries, &mut random).bytes();
+    (0..count).map(|_| file()).collect()
+}
+
+/// Both sides must do the same work before it is timed. Gives the waits.
+fn check(file: &[u8], entries: usize) -> u32 {
+    let run = |side: &Side| {
+        let mut trace = vec![0xA5; trace_room(entries)];
+        let mut totals = [0xA5; 12];
+        let answer = (side.run)(file, &mut trace, &mut totals);
+        assert!(!answer.is_refused(), "{} refuses the load", side.name);
+        (trace, totals)
+    };
+    let proved = run(&PROVED);
+    assert!(proved == run(&REFERENCE), "the traces differ");
+    number_at(&proved.1[8..])
+}
+
+/// Passes over all files until `least` has been spent in runs; nanoseconds an
+/// entry.
+fn round(side: &Side, files: &[Vec<u8>], entries: usize, least: Duration) -> f64 {
+    let mut trace = vec![0; trace_room(entries)];
+    let mut totals = [0; 12];
+    let mut spent = Duration::ZERO;
+    let mut runs = 0;
+    while spent < least {
+        for file in files {
+            trace.fill(0xA5);
+            totals.fill(0xA5);
+            let started = Instant::now();
+            let answer = (side.run)(black_box(file), &mut trace, &mut totals);
+            spent += started.elapsed();
+            black_box((answer, &trace, &totals));
+        }
+        runs += files.len();
+    }
+    spent.as_nanos() as f64 / (runs * entries) as f64
+}
+
+fn print_row(one: &Measured) {
+    let (proved, reference) = (median(&one.proved), median(&one.reference));
+    let least = one.ratios.iter().copied().fold(f64::INFINITY, f64::min);
+    let most = one.ratios.iter().copied().fold(0.0, f64::max);
+    println!(
+        "{:<13}{:>8}{:>8.1}{:>11.1}{:>11.1}{:>10.2}{:>10.2}{:>8.2}  {least:.2} to {most:.2}",
+        one.load,
+        one.entries,
+        one.waits,
+        proved,
+        reference,
+        1000.0 / proved,
+        1000.0 / reference,
+        median(&one.ratios),
+    );
+}
+
+/// Nanoseconds an entry by length: level where time grows with the entries.
+fn print_growth(all: &[Measured]) {
+    println!();
+    println!("growth: ns an entry by number of entries, and 4096 against 256");
+    print!("{:<25}", "");
+    for entries in LENGTHS {
+        print!("{entries:>9}");
+    }
+    println!("{:>9}", "factor");
+    for of_load in all.chunks(LENGTHS.len()) {
+        growth_row(of_load, PROVED.name, |one| median(&one.proved));
+        growth_row(of_load, REFERENCE.name, |one| median(&one.reference));
+    }
+    println!();
+}
+
+fn growth_row(of_load: &[Measured], side: &str, figure: impl Fn(&Measured) -> f64) {
+    let figures: Vec<f64> = of_load.iter().map(figure).collect();
+    print!("{:<14}{side:<11}", of_load[0].load);
+    for figure in &figures {
+        print!("{figure:>9.1}");
+    }
+    println!("{:>9.2}", figures[figures.len() - 1] / figures[0]);
+}
+
+fn median(figures: &[f64]) -> f64 {
+    let mut sorted = figures.to_vec();
+    sorted.sort_by(f64::total_cmp);
+    sorted[sorted.len() / 2]
+}

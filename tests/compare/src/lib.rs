@@ -1,0 +1,29 @@
+//! Comparison of two implementations of the rehearsal bench: the one behind
+//! the doors of a static library and an independent one.
+//!
+//! `compare` takes files through both and says whether they agree; `bench`
+//! takes the same files through both and says how long each needs.
+
+pub mod campaign;
+pub mod checks;
+pub mod damage;
+pub mod doors;
+pub mod edges;
+pub mod examples;
+pub mod generate;
+pub mod lent;
+pub mod likeness;
+pub mod lines;
+pub mod plain;
+pub mod program;
+pub mod random;
+pub mod rehearsals;
+pub mod report;
+pub mod rooms;
+pub mod schedule;
+pub mod script;
+pub mod sides;
+pub mod sketch;
+pub mod spread;
+pub mod tally;
+pub mod writer;

@@ -1,0 +1,165 @@
+//! The bench: the parties around one machine, and who may do what when.
+//!
+//! Here stand the rules for beginning a call, the spacing rule, and the order
+//! in which an entry's obstacles are looked at.
+
+use std::convert::identity;
+
+use crate::calls::{Progress, Put, Steal, Step, Take};
+use crate::entry::Entry;
+use crate::machine::{Machine, Wait};
+use crate::outcome::Outcome;
+use crate::sizes::Sizes;
+
+#[derive(Debug, Clone, Copy, PartialEq, Eq)]
+pub(crate) enum WorkerCall<T> {
+    Put(Put<T>),
+    Take(Take),
+}
+
+#[derive(Debug, Clone)]
+pub(crate) struct Bench<T> {
+    machine: Machine<T>,
+    worker: Option<WorkerCall<T>>,
+    thieves: Vec<Option<Steal<T>>>,
+    margin: i64,
+    spacing: u32,
+    /// Client stores since the latest take began; none has begun at first,
+    /// and no count runs before one has.
+    stores_since_take: Option<u32>,
+}
+
+impl<T: Copy + Default> Bench<T> {
+    pub(crate) fn new(sizes: &Sizes) -> Self {
+        Bench {
+            machine: Machine::new(sizes),
+            worker: None,
+            thieves: vec![None; sizes.thieves as usize],
+            margin: i64::from(sizes.margin_in_use()),
+            spacing: sizes.spacing,
+            stores_since_take: None,
+        }
+    }
+
+    /// Obeys one entry; a thief it names must be one of the bench's.
+    pub(crate) fn obey(&mut self, entry: Entry<T>) -> Outcome<T> {
+        match entry {
+            Entry::Drain => moved_or_wait(self.machine.drain()),
+            Entry::ClientStore => self.client_store(),
+            Entry::BeginPut(task) => {
+                begin(&mut self.worker, WorkerCall::Put(Put::LoadHead { task }))
+            }
+            Entry::BeginTake => self.begin_take(),
+            Entry::WorkerStep => self.worker_step(),
+            Entry::BeginSteal(thief) => begin(&mut self.thieves[thief as usize], Steal::Lock),
+            Entry::ThiefStep(thief) => self.thief_step(thief as usize),
+        }
+    }
+
+    fn client_store(&mut self) -> Outcome<T> {
+        if self.worker.is_some() {
+            return Outcome::Place;
+        }
+        let stored = self.machine.client_store();
+        if let (Ok(()), Some(count)) = (stored, &mut self.stores_since_take) {
+            *count += 1;
+        }
+        moved_or_wait(stored)
+    }
+
+    fn begin_take(&mut self) -> Outcome<T> {
+        if self.worker.is_some() {
+            return Outcome::Place;
+        }
+        if self
+            .stores_since_take
+            .is_some_and(|count| count < self.spacing)
+        {
+            return Outcome::Early;
+        }
+        self.stores_since_take = Some(0);
+        begin(&mut self.worker, WorkerCall::Take(Take::StoreTail))
+    }
+
+    fn worker_step(&mut self) -> Outcome<T> {
+        match self.worker {
+            None => Outcome::Place,
+            Some(WorkerCall::Put(put)) => {
+                let step = put.step(&mut self.machine);
+                advance(&mut self.worker, WorkerCall::Put, step)
+            }
+            Some(WorkerCall::Take(take)) => {
+                let step = take.step(&mut self.machine);
+                advance(&mut self.worker, WorkerCall::Take, step)
+            }
+        }
+    }
+
+    fn thief_step(&mut self, thief: usize) -> Outcome<T> {
+        let Some(steal) = self.thieves[thief] else {
+            return Outcome::Place;
+        };
+        let step = steal.step(&mut self.machine, self.margin);
+        advance(&mut self.thieves[thief], identity, step)
+    }
+}
+
+/// What an onlooker may see; none of it moves anything.
+impl<T: Copy + Default> Bench<T> {
+    #[cfg(test)]
+    pub(crate) fn machine(&self) -> &Machine<T> {
+        &self.machine
+    }
+
+    pub(crate) fn worker_call(&self) -> Option<WorkerCall<T>> {
+        self.worker
+    }
+
+    pub(crate) fn thief_call(&self, thief: u32) -> Option<Steal<T>> {
+        self.thieves[thief as usize]
+    }
+
+    pub(crate) fn no_call_runs(&self) -> bool {
+        self.worker.is_none() && self.thieves.iter().all(Option::is_none)
+    }
+
+    /// What the worker would load from the head up to just below its tail.
+    pub(crate) fn worker_view(&self) -> impl Iterator<Item = T> + '_ {
+        let indices = self.machine.head()..self.machine.worker_tail();
+        indices.map(|index| self.machine.worker_load(index))
+    }
+}
+
+fn moved_or_wait<T>(done: Result<(), Wait>) -> Outcome<T> {
+    match done {
+        Ok(()) => Outcome::Moved,
+        Err(Wait) => Outcome::Wait,
+    }
+}
+
+fn begin<C, T>(running: &mut Option<C>, call: C) -> Outcome<T> {
+    if running.is_some() {
+        return Outcome::Place;
+    }
+    *running = Some(call);
+    Outcome::Moved
+}
+
+/// Brings a party's call up to date with the step it has made, if it has.
+fn advance<C, S, T>(
+    running: &mut Option<C>,
+    as_call: impl FnOnce(S) -> C,
+    step: Step<S, T>,
+) -> Outcome<T> {
+    match step {
+        Err(Wait) => Outcome::Wait,
+        Ok(Progress::Next(next)) => {
+            *running = Some(as_call(next));
+            Outcome::Moved
+        }
+        Ok(Progress::Answer(answer)) => {
+            *running = None;
+            answer
+        }
+    }
+}

@@ -1,0 +1,160 @@
+//! The machine: memory, the lock, and the worker's bounded store buffer.
+//!
+//! The content of a slot is an opaque `T`: the machine copies it and never
+//! looks at it, so whatever travels with a task cannot change what happens.
+
+use std::collections::VecDeque;
+
+use crate::sizes::Sizes;
+
+/// The moment is wrong: what the step needs is not there yet.
+#[derive(Debug, Clone, Copy, PartialEq, Eq)]
+pub(crate) struct Wait;
+
+/// A store of the worker on its way to memory.
+#[derive(Debug, Clone, Copy)]
+enum Store<T> {
+    Slot {
+        slot: usize,
+        task: T,
+    },
+    Tail(i64),
+    /// The client's own data; the queue only feels the place it takes up.
+    Client,
+}
+
+#[derive(Debug, Clone)]
+pub(crate) struct Machine<T> {
+    slots: Vec<T>,
+    head: i64,
+    tail: i64,
+    locked: bool,
+    /// The store buffer, oldest first; `buffer` is its capacity.
+    pending: VecDeque<Store<T>>,
+    buffer: usize,
+}
+
+impl<T: Copy + Default> Machine<T> {
+    pub(crate) fn new(sizes: &Sizes) -> Self {
+        let buffer = sizes.buffer as usize;
+        Machine {
+            slots: vec![T::default(); sizes.slots as usize],
+            head: i64::from(sizes.start),
+            tail: i64::from(sizes.start),
+            locked: false,
+            pending: VecDeque::with_capacity(buffer),
+            buffer,
+        }
+    }
+
+    /// Lets the store that has waited longest arrive.
+    pub(crate) fn drain(&mut self) -> Result<(), Wait> {
+        match self.pending.pop_front().ok_or(Wait)? {
+            Store::Slot { slot, task } => self.slots[slot] = task,
+            Store::Tail(tail) => self.tail = tail,
+            Store::Client => {}
+        }
+        Ok(())
+    }
+
+    pub(crate) fn slot_count(&self) -> i64 {
+        self.slots.len() as i64
+    }
+
+    /// The head is the same for everybody, since no store to it is ever late.
+    pub(crate) fn head(&self) -> i64 {
+        self.head
+    }
+
+    fn slot_of(&self, index: i64) -> usize {
+        index.rem_euclid(self.slot_count()) as usize
+    }
+}
+
+/// The worker's side: stores are late, and loads see them first.
+impl<T: Copy + Default> Machine<T> {
+    pub(crate) fn worker_tail(&self) -> i64 {
+        let newest = self.pending.iter().rev().find_map(|store| match *store {
+            Store::Tail(tail) => Some(tail),
+            _ => None,
+        });
+        newest.unwrap_or(self.tail)
+    }
+
+    pub(crate) fn worker_load(&self, index: i64) -> T {
+        let wanted = self.slot_of(index);
+        let newest = self.pending.iter().rev().find_map(|store| match *store {
+            Store::Slot { slot, task } if slot == wanted => Some(task),
+            _ => None,
+        });
+        newest.unwrap_or(self.slots[wanted])
+    }
+
+    pub(crate) fn worker_store(&mut self, index: i64, task: T) -> Result<(), Wait> {
+        let slot = self.slot_of(index);
+        self.push(Store::Slot { slot, task })
+    }
+
+    pub(crate) fn worker_store_tail(&mut self, tail: i64) -> Result<(), Wait> {
+        self.push(Store::Tail(tail))
+    }
+
+    pub(crate) fn client_store(&mut self) -> Result<(), Wait> {
+        self.push(Store::Client)
+    }
+
+    fn push(&mut self, store: Store<T>) -> Result<(), Wait> {
+        if self.pending.len() == self.buffer {
+            return Err(Wait);
+        }
+        self.pending.push_back(store);
+        Ok(())
+    }
+
+    /// Like every atomic instruction, this one waits for the store buffer.
+    pub(crate) fn worker_lock(&mut self) -> Result<(), Wait> {
+        self.buffer_is_empty()?;
+        self.lock()
+    }
+
+    pub(crate) fn worker_unlock(&mut self) -> Result<(), Wait> {
+        self.buffer_is_empty()?;
+        self.unlock();
+        Ok(())
+    }
+
+    fn buffer_is_empty(&self) -> Result<(), Wait> {
+        if self.pending.is_empty() {
+            Ok(())
+        } else {
+            Err(Wait)
+        }
+    }
+}
+
+/// The lock, and the thief's side: loads and stores go straight to memory.
+impl<T: Copy + Default> Machine<T> {
+    pub(crate) fn lock(&mut self) -> Result<(), Wait> {
+        if self.locked {
+            return Err(Wait);
+        }
+        self.locked = true;
+        Ok(())
+    }
+
+    pub(crate) fn unlock(&mut self) {
+        self.locked = false;
+    }
+
+    pub(crate) fn set_head(&mut self, head: i64) {
+        self.head = head;
+    }
+
+    pub(crate) fn memory_tail(&self) -> i64 {
+        self.tail
+    }
+
+    pub(crate) fn memory_load(&self, index: i64) -> T {
+        self.slots[self.slot_of(index)]
+    }
+}

@@ -1,0 +1,30 @@
+//! Running a schedule file into a lent trace buffer.
+
+use crate::bench::Bench;
+use crate::format::decode;
+use crate::outcome::Totals;
+use crate::refusal::Refusal;
+
+/// Obeys the schedule and writes its trace at the start of `trace`.
+///
+/// The room is measured before anything is written, and only after the file
+/// itself has been accepted.
+pub fn run(file: &[u8], trace: &mut [u8]) -> Result<Totals, Refusal> {
+    let (sizes, entries) = decode(file)?;
+    let count = entries.len();
+    let trace = trace.get_mut(..4 + 5 * count).ok_or(Refusal::ROOM)?;
+    let (header, arrays) = trace.split_at_mut(4);
+    let (numbers, values) = arrays.split_at_mut(count);
+    let (values, _) = values.as_chunks_mut::<4>();
+
+    header.copy_from_slice(&(count as u32).to_le_bytes());
+    let mut bench = Bench::new(&sizes);
+    let mut totals = Totals::default();
+    for ((entry, number), value) in entries.into_iter().zip(numbers).zip(values) {
+        let outcome = bench.obey(entry);
+        *number = outcome.number();
+        *value = outcome.value().to_le_bytes();
+        totals.count(&outcome);
+    }
+    Ok(totals)
+}

@@ -1,0 +1,135 @@
+//! The program's lines, and schedules that are alike.
+
+mod common;
+
+use common::{file, SIZES};
+use reference::{alike, lines, Sizes};
+
+#[test]
+fn the_example_prints_its_lines() {
+    let entries = [(2, 7), (4, 0), (4, 0), (4, 0), (0, 0), (4, 0)];
+    let expected = "\
+4 1 0 1 1 0 enough
+0 0 0
+1 0 0
+2 0 0
+3 7 0
+4 0 0
+5 16 0
+given 0 aborts 0 waits 1
+";
+    assert_eq!(lines(&file(SIZES, &entries)), expected);
+}
+
+#[test]
+fn the_first_line_has_the_margin_in_use() {
+    let first = |buffer, spacing, margin| {
+        let sizes = Sizes {
+            buffer,
+            spacing,
+            margin,
+            ..SIZES
+        };
+        lines(&file(sizes, &[]))
+            .lines()
+            .next()
+            .map(str::to_owned)
+            .unwrap()
+    };
+    assert_eq!(first(33, 1, 0), "4 33 1 33 1 0 enough");
+    assert_eq!(first(33, 1, 17), "4 33 1 17 1 0 enough");
+    assert_eq!(first(33, 1, 16), "4 33 1 16 1 0 short");
+}
+
+#[test]
+fn the_last_line_has_the_totals() {
+    let put = [(2, 9), (4, 0), (4, 0), (0, 0), (4, 0), (0, 0)];
+    let steal = [(5, 0), (6, 0), (6, 0), (6, 0), (6, 0), (6, 0), (6, 0)];
+    let wait = [(0, 0)];
+    let file = file(SIZES, &[&put[..], &put, &steal, &steal, &wait].concat());
+    assert_eq!(
+        lines(&file).lines().last(),
+        Some("given 1 aborts 1 waits 1")
+    );
+}
+
+#[test]
+fn an_empty_schedule_prints_two_lines() {
+    assert_eq!(
+        lines(&file(SIZES, &[])),
+        "4 1 0 1 1 0 enough\ngiven 0 aborts 0 waits 0\n"
+    );
+}
+
+const TWO_THIEVES: Sizes = Sizes {
+    slots: 8,
+    buffer: 4,
+    margin: 4,
+    thieves: 2,
+    ..SIZES
+};
+
+fn aborted_steal(thief: u32) -> Vec<(u8, u32)> {
+    [vec![(5, thief)], vec![(6, thief); 6]].concat()
+}
+
+fn put(task: u32) -> Vec<(u8, u32)> {
+    vec![(2, task), (4, 0), (4, 0), (4, 0)]
+}
+
+#[test]
+fn the_order_between_parties_does_not_matter() {
+    let first = file(
+        TWO_THIEVES,
+        &[put(1), aborted_steal(0), aborted_steal(1)].concat(),
+    );
+    let second = file(
+        TWO_THIEVES,
+        &[aborted_steal(1), put(1), vec![(0, 0)], aborted_steal(0)].concat(),
+    );
+    assert_eq!(alike(&first, &second), Ok(true));
+}
+
+#[test]
+fn the_order_within_a_party_does() {
+    let drained_take = vec![
+        (0, 0),
+        (0, 0),
+        (0, 0),
+        (0, 0),
+        (3, 0),
+        (4, 0),
+        (4, 0),
+        (4, 0),
+    ];
+    let two_on_top = file(
+        TWO_THIEVES,
+        &[put(1), put(2), drained_take.clone()].concat(),
+    );
+    let one_on_top = file(TWO_THIEVES, &[put(2), put(1), drained_take].concat());
+    assert_eq!(alike(&two_on_top, &two_on_top), Ok(true));
+    assert_eq!(alike(&two_on_top, &one_on_top), Ok(false));
+}
+
+#[test]
+fn who_is_answered_matters() {
+    let first = file(TWO_THIEVES, &aborted_steal(0));
+    let second = file(TWO_THIEVES, &aborted_steal(1));
+    let none = file(TWO_THIEVES, &aborted_steal(0)[..6]);
+    assert_eq!(alike(&first, &second), Ok(false));
+    assert_eq!(alike(&first, &none), Ok(false));
+}
+
+#[test]
+fn sizes_are_compared_as_written() {
+    let in_use_alike = file(
+        Sizes {
+            margin: 0,
+            ..TWO_THIEVES
+        },
+        &[],
+    );
+    assert_eq!(alike(&file(TWO_THIEVES, &[]), &in_use_alike), Ok(false));
+    let other_length = file(TWO_THIEVES, &[(0, 0)]);
+    assert_eq!(alike(&file(TWO_THIEVES, &[]), &other_length), Ok(true));
+}

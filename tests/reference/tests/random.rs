@@ -1,0 +1,74 @@
+//! Random schedules before the judge: nothing to find where the margin is
+//! enough, and something to find now and then where it is short.
+
+mod common;
+
+use common::{file, Dice};
+use reference::plain_queue::{judge, Verdict};
+use reference::{needed_margin, read, run, Sizes};
+
+const NOTHING: Verdict = Verdict {
+    given_twice: 0,
+    lost: 0,
+    first_difference: None,
+};
+
+#[test]
+fn enough_margin_leaves_nothing_to_find() {
+    let mut dice = Dice::new(2);
+    for _ in 0..6000 {
+        let mut sizes = dice.sizes();
+        let needed = needed_margin(sizes.buffer, sizes.spacing);
+        sizes.margin = dice.pick(&[0, needed, needed, 64]);
+        let count = dice.pick(&[100, 400, 1000]);
+        let file = file(sizes, &dice.entries(&sizes, count));
+        assert_eq!(judge(&file), Ok(NOTHING), "{:?}", read(&file));
+    }
+}
+
+#[test]
+fn a_short_margin_is_found_out() {
+    let mut dice = Dice::new(3);
+    let (mut twice, mut lost) = (0, 0);
+    for _ in 0..2000 {
+        let sizes = Sizes {
+            slots: 8,
+            buffer: 7,
+            spacing: 0,
+            margin: 1,
+            ..dice.sizes()
+        };
+        let verdict = judge(&file(sizes, &dice.entries(&sizes, 1000))).unwrap();
+        let harmed = verdict.given_twice > 0 || verdict.lost > 0;
+        assert!(!harmed || verdict.first_difference.is_some());
+        twice += usize::from(verdict.given_twice > 0);
+        lost += usize::from(verdict.lost > 0);
+    }
+    assert!(twice > 0 && lost > 0, "twice {twice}, lost {lost}");
+}
+
+/// Damaged files must be refused or obeyed, and never anything else.
+#[test]
+fn damage_is_refused_alike_everywhere() {
+    let mut dice = Dice::new(4);
+    let mut accepted = 0;
+    for _ in 0..20000 {
+        let sizes = dice.sizes();
+        let count = dice.below(12) as usize;
+        let mut file = file(sizes, &dice.entries(&sizes, count));
+        for _ in 0..dice.below(3) {
+            let at = dice.below(file.len() as u32) as usize;
+            file[at] = dice.pick(&[0, 1, 7, 8, 0x80, 0xff]);
+        }
+        file.truncate(file.len() - dice.pick(&[0, 0, 0, 0, 1]));
+
+        let mut trace = [0xee; 4 + 5 * 12];
+        let ran = run(&file, &mut trace);
+        assert_eq!(ran.err(), read(&file).err());
+        assert_eq!(ran.err(), judge(&file).err());
+        let used = ran.map_or(0, |_| 4 + 5 * count);
+        assert!(trace[used..].iter().all(|&byte| byte == 0xee));
+        accepted += usize::from(ran.is_ok());
+    }
+    assert!(accepted > 5000, "{accepted} accepted");
+}
