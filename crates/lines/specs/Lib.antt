@@ -2,6 +2,10 @@
 --
 -- numbers and words in text             Text
 -- the lines of a file                   Lines
+-- inputs that are too long              Input
+-- lines by example                      Examples
 pub mod Types
 pub mod Text
 pub mod Lines
+pub mod Input
+pub mod Examples

@@ -1,0 +1,38 @@
+-- Lines by example, as one table over the definitions: the example of "The program's lines", a refused file, first lines with a margin of 0 and with one that is short, and numbers at the ends of their range. `proofs/Examples.antt`
+-- proves one fact: every row holds.
+use mathlib.Core.Bool.{Bool}
+use mathlib.Core.List.{List, [], _∷_}
+use Prim.Native.Nat.{ℕ}
+use Prim.Native.String.{String}
+use Rattle.schedule.specs.Edges.{equal}
+use Rattle.schedule.specs.Format.{fileOf}
+use Rattle.lines.specs.Types.{Sizes}
+use Rattle.lines.specs.Text.{ascii, decimal}
+use Rattle.lines.specs.Lines.{linesOf}
+
+pub data Row : Type 0 where
+  -- sizes, kinds and operands of a file, and what is printed of it
+  prints : Sizes → (kinds operands : List ℕ) → String → Row
+  -- a number, and how it is written
+  writes : ℕ → String → Row
+
+abbrev pub holds : Row → Bool
+holds (prints s kinds operands text) = equal (linesOf (fileOf s kinds operands)) (ascii text)
+holds (writes n text) = equal (decimal n) (ascii text)
+
+abbrev pub table : List Row
+table =
+    prints (record { slots = 4; buffer = 1; spacing = 0; margin = 1; thieves = 1; start = 0 }) (2 ∷ 4 ∷ 4 ∷ 4 ∷ 0 ∷ 4 ∷ []) (7 ∷ 0 ∷ 0 ∷ 0 ∷ 0 ∷ 0 ∷ [])
+    "4 1 0 1 1 0 enough\n0 0 0\n1 0 0\n2 0 0\n3 7 0\n4 0 0\n5 16 0\ngiven 0 aborts 0 waits 1\n"
+    ∷ prints (record { slots = 4; buffer = 1; spacing = 0; margin = 1; thieves = 1; start = 0 }) (5 ∷ 6 ∷ []) (0 ∷ 1 ∷ []) "refused 4 place 1\n"
+    ∷ prints (record { slots = 256; buffer = 33; spacing = 1; margin = 0; thieves = 8; start = 2147483647 }) [] []
+    "256 33 1 33 8 2147483647 enough\ngiven 0 aborts 0 waits 0\n"
+    ∷ prints (record { slots = 2; buffer = 33; spacing = 1; margin = 16; thieves = 1; start = 10 }) [] []
+    "2 33 1 16 1 10 short\ngiven 0 aborts 0 waits 0\n"
+    ∷ writes 0 "0"
+    ∷ writes 9 "9"
+    ∷ writes 10 "10"
+    ∷ writes 4096 "4096"
+    ∷ writes 1000000000 "1000000000"
+    ∷ writes 4294967295 "4294967295"
+    ∷ []
