@@ -90,10 +90,10 @@ fn obey_all(sizes: Sizes, kinds: &[u8], operands: &[u8], trace: &mut [u8]) -> Ta
             // Not reached: all of them are allowed.
             return tally;
         };
-        let done = step(machine, tally, entry);
+        let done = machine.obey(entry);
         let outcome = done.outcome;
         machine = done.machine;
-        tally = done.tally;
+        tally = tally.counted(outcome);
         put_outcome(trace, entries, at, outcome);
         at += 1;
     }

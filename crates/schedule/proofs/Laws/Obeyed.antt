@@ -4,13 +4,14 @@ use mathlib.Core.List.{List, [], _∷_, _++_}
 use Prim.Native.Nat.{ℕ, _+_, _*_, _≤_, _<_}
 use native.Mathlib.Omega.{arith}
 use lib.ListN.{length}
+use Rattle.machine.specs.declared.machine.Done.{Done}
 use Rattle.machine.specs.Obey.{machineAfter, obey, outcomesOf}
 use Rattle.terms.specs.Outcome.{numberOf, valueOf}
-use Rattle.terms.specs.Tally.{noneCounted}
-use Rattle.schedule.specs.Types.{Allowed, Entry, Machine, Outcome, Passed, Stepped, Tally}
+use Rattle.terms.specs.Tally.{counted, noneCounted}
+use Rattle.schedule.specs.Types.{Allowed, Entry, Machine, Outcome, Passed, Tally}
 use Rattle.schedule.specs.Entries.{checkEntries, entryAt}
 use Rattle.number.specs.Number.{littleEndian, overwritten}
-use Rattle.schedule.specs.Run.{entriesOf, stepped}
+use Rattle.schedule.specs.Run.{entriesOf}
 use Rattle.schedule.specs.Totals.{tallyOf}
 use Rattle.schedule.specs.Trace.{traceOf}
 use Rattle.schedule.proofs.Laws.Run.{entriesUpTo, entriesUpTo-more, length-entriesUpTo, length-outcomesOf, machineAfter-more, outcomesOf-more, tallyOf-more}
@@ -38,23 +39,24 @@ module _ (m : Machine) (thieves : ℕ) (kinds operands l : List ℕ) where
     pub obeyed-more : (trace : List ℕ) (machine : Machine) (tally : Tally) (at : ℕ) → at < length kinds
         → Obeyed m thieves kinds operands l trace machine tally at
         → (e : Entry) → entryAt thieves kinds operands at ≡ Allowed e
-        → (done : Stepped) → done ≡ stepped machine tally e
+        → (done : Done) → done ≡ obey machine e
+        → (totals : Tally) → totals ≡ counted tally (done .outcome)
         → (after : List ℕ)
         → after ≡ overwritten (4 + length kinds + 4 * at) (littleEndian 4 (valueOf (done .outcome))) (overwritten (4 + at) (numberOf (done .outcome) ∷ []) trace)
-        → Obeyed m thieves kinds operands l after (done .machine) (done .tally) (at + 1)
-    obeyed-more trace machine tally at inside so-far e allowed done by-step after stored =
+        → Obeyed m thieves kinds operands l after (done .machine) totals (at + 1)
+    obeyed-more trace machine tally at inside so-far e allowed done by-obeying totals by-counting after stored =
         let n = length kinds in
         let es = entriesUpTo thieves kinds operands at in
         let os = outcomesOf m es in
-        -- the step, as one from the machine and the totals that the entries before left
-        let by-then : done ≡ stepped (machineAfter m es) (tallyOf os) e = by-step ∙ (λ i. stepped (so-far .machine-then i) (so-far .tally-then i) e) in
+        -- the entry, as one for the machine and the totals that the entries before left
+        let by-then : done ≡ obey (machineAfter m es) e = by-obeying ∙ (λ i. obey (so-far .machine-then i) e) in
         let o = obey (machineAfter m es) e .outcome in
         let entries-more = entriesUpTo-more thieves kinds operands at e allowed in
         let outcomes-more : os ++ (o ∷ []) ≡ outcomesUpTo m thieves kinds operands (at + 1) = sym (ap (outcomesOf m) entries-more ∙ outcomesOf-more m es e) in
         let long : at ≡ length os = sym (length-outcomesUpTo at (omega arith)) in
         record {
           machine-then = ap (λ d. d .machine) by-then ∙ sym (ap (machineAfter m) entries-more ∙ machineAfter-more m es e);
-          tally-then = ap (λ d. d .tally) by-then ∙ sym (tallyOf-more os o) ∙ ap tallyOf outcomes-more;
+          tally-then = by-counting ∙ (λ i. counted (so-far .tally-then i) (by-then i .outcome)) ∙ sym (tallyOf-more os o) ∙ ap tallyOf outcomes-more;
           trace-then =
               stored
               ∙ (λ i. overwritten (4 + n + 4 * long i) (littleEndian 4 (valueOf (by-then i .outcome))) (overwritten (4 + long i) (numberOf (by-then i .outcome) ∷ []) (so-far .trace-then i)))

@@ -51,8 +51,9 @@ add-at c =
 loop-again : tie.Need-loop-again Inv-loop μ-loop
 loop-again c =
     let put = c .before .before in
-    let step = put .before .before .before .before in
-    let meant = step .before .before in
+    let count = put .before .before in
+    let obey = count .before .before in
+    let meant = obey .before .before in
     let asked = meant .before .before in
     let turn = asked .before .before in
     let start = turn .before .before .before .before .before .before in
@@ -60,7 +61,8 @@ loop-again c =
       obeyed-more (fresh (a .sizes)) (a .sizes .thieves) (a .kinds .now) (wordsIn (a .operands .now)) (a .trace .now) (start .pre .1) (start .pre .0 .2)
           _ _ _ (turn .loop .at) (asked .before .loop-test .taken) (turn .loop .inv .0)
           _ (sym (asked .entry-at .ensures) ∙ meant .meaning .given .1)
-          _ (step .step .ensures)
+          _ (obey .obey .ensures)
+          _ (count .counted .ensures)
           _ (put .put-outcome .ensures),
       omega arith,
       put .put-outcome .kept .0 ∙ turn .loop .inv .2,
@@ -94,6 +96,7 @@ obey-all-spec =
     (λ c. search needs)
     same-length
     returns
+    (λ c κs. search needs)
     (λ c κs. search needs)
     put-outcome-requires
     add-at
