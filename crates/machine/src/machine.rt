@@ -22,7 +22,6 @@ ghost use Rattle.machine.specs.Index.{slotIndexInRange};
 ghost use Rattle.machine.specs.Machine.{done, fresh, isNobody, memoryLoad, workerLoad, workerTail};
 ghost use Rattle.machine.specs.Obey.{obey};
 ghost use Rattle.machine.specs.Types.{BeginPut, BeginSteal, BeginTake, ClientStore, Drain, Place, Wait};
-ghost use Rattle.machine.specs.Update.{withLock};
 
 // Who holds the lock.
 pub enum Holder {
@@ -144,15 +143,6 @@ impl Machine {
         buffer.newest_in_slot(slots, slot, value)
     }
 
-    // With this holder of the lock.
-    pub(crate) fn with_lock(mut self, holder: Holder) -> Machine
-        ensures { λ r. ⌜ r ≡ withLock holder self ⌝ }
-    {
-        let lock = Lock { holder: holder };
-        self.lock = lock;
-        self
-    }
-
     // Handed back as it is: what the entry needs is not there.
     pub(crate) fn waits(self) -> Done
         ensures { λ r. ⌜ r ≡ done Wait self ⌝ }
@@ -261,7 +251,7 @@ impl Machine {
     pub fn begin_steal(mut self, thief: u32) -> Done
         ensures { λ r. ⌜ r ≡ obey self (BeginSteal thief) ⌝ }
     {
-        if !self.ready_for_thief(thief) {
+        if !both(self.in_range(), thief < self.sizes.thieves) {
             return self.waits();
         }
         let call = self.thief_call(thief);

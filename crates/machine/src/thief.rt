@@ -2,12 +2,12 @@ use crate::boolean::both;
 use crate::index::Index;
 use crate::machine::Done;
 use crate::machine::Holder;
+use crate::machine::Lock;
 use crate::machine::Machine;
 use terms::Outcome;
 ghost use mathlib.Core.Path.{_≡_};
-ghost use mathlib.Core.Bool.{true, _&&_};
+ghost use mathlib.Core.Bool.{true};
 ghost use Prim.Native.Nat.{_<_};
-ghost use lib.Dec.{ltb};
 ghost use Rattle.machine.specs.Index.{indexInRange, slotIndexInRange};
 ghost use Rattle.machine.specs.InRange.{inRange, thiefInRange};
 ghost use Rattle.machine.specs.Lists.{all};
@@ -88,13 +88,6 @@ pub(crate) fn thieves_in_range(thieves: [Thief; 8]) -> bool
 }
 
 impl Machine {
-    // Whether the machine is in range and the thief with this number is there.
-    pub(crate) fn ready_for_thief(self, thief: u32) -> bool
-        ensures { λ r. ⌜ r ≡ (inRange self && ltb thief (self .sizes .thieves)) ⌝ }
-    {
-        both(self.in_range(), thief < self.sizes.thieves)
-    }
-
     // The call of the thief with this number.
     pub(crate) fn thief_call(self, thief: u32) -> ThiefCall
         requires { ⌜ thief < 8 ⌝ }
@@ -126,7 +119,10 @@ impl Machine {
     {
         let lock = self.lock;
         if lock.is_free() {
-            self = self.with_lock(Holder::TheThief(thief));
+            let held = Lock {
+                holder: Holder::TheThief(thief),
+            };
+            self.lock = held;
             return self.thief_comes_to(thief, Outcome::Moved, ThiefCall::StealLoadHead);
         }
         self.waits()
@@ -188,7 +184,10 @@ impl Machine {
         requires { ⌜ thief < 8 ⌝ }
         ensures { λ r. ⌜ r ≡ stealUnlock thief outcome self ⌝ }
     {
-        self = self.with_lock(Holder::Nobody);
+        let free = Lock {
+            holder: Holder::Nobody,
+        };
+        self.lock = free;
         self.thief_comes_to(thief, outcome, ThiefCall::Idle)
     }
 
@@ -196,7 +195,7 @@ impl Machine {
     pub fn thief_step(mut self, thief: u32) -> Done
         ensures { λ r. ⌜ r ≡ obey self (ThiefStep thief) ⌝ }
     {
-        if !self.ready_for_thief(thief) {
+        if !both(self.in_range(), thief < self.sizes.thieves) {
             return self.waits();
         }
         let call = self.thief_call(thief);

@@ -2,6 +2,7 @@ use crate::boolean::both;
 use crate::index::Index;
 use crate::machine::Done;
 use crate::machine::Holder;
+use crate::machine::Lock;
 use crate::machine::Machine;
 use crate::store_buffer::Store;
 use crate::store_buffer::StoreKind;
@@ -140,7 +141,10 @@ impl Machine {
             ⌝ }
     {
         if self.buffer.count == 0 {
-            self = self.with_lock(Holder::Nobody);
+            let free = Lock {
+                holder: Holder::Nobody,
+            };
+            self.lock = free;
             return self.worker_comes_to(outcome, call);
         }
         self.waits()
@@ -227,7 +231,10 @@ impl Machine {
     {
         let lock = self.lock;
         if both(lock.is_free(), self.buffer.count == 0) {
-            self = self.with_lock(Holder::TheWorker);
+            let held = Lock {
+                holder: Holder::TheWorker,
+            };
+            self.lock = held;
             return self.worker_comes_to(Outcome::Moved, WorkerCall::TakeReloadHead(t));
         }
         self.waits()

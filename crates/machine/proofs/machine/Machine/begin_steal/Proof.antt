@@ -31,23 +31,28 @@ later-runs (StealUnlockTask x) keys = refl
 later-runs (StealRestoreHead h) keys = refl
 later-runs StealUnlockAbort keys = refl
 
+-- The test of machine and thief, as the definitions make it.
+tested : (c : tie.After-both)
+    → c .both .result ≡ (inRange (c .before .before .before .args .self) && ltb (c .before .before .before .args .thief) (c .before .before .before .args .self .sizes .thieves))
+tested c = simp (c .both .ensures, c .before .before .in-range .ensures)
+
 -- Where the call is looked at: the thief is there, and whether its call runs decides the entry.
 
-there : (c : tie.Else1) → (inRange (c .before .before .args .self) && ltb (c .before .before .args .thief) (c .before .before .args .self .sizes .thieves)) ≡ true
-there c = granted (c .before .ready-for-thief .ensures) (c .if1 .left)
+there : (c : tie.Else1) → (inRange (c .before .before .before .before .args .self) && ltb (c .before .before .before .before .args .thief) (c .before .before .before .before .args .self .sizes .thieves)) ≡ true
+there c = granted (tested (c .before)) (c .if1 .left)
 
-below : (c : tie.Else1) → c .before .before .args .thief < 8
-below c = thief-ready (c .before .before .args .self) (c .before .before .args .thief) (there c) .below
+below : (c : tie.Else1) → c .before .before .before .before .args .thief < 8
+below c = thief-ready (c .before .before .before .before .args .self) (c .before .before .before .before .args .thief) (there c) .below
 
 decided : (c : tie.After-thief-call) {runs : Bool} → thiefRuns (c .thief-call .result) ≡ runs
-    → obey (c .before .before .before .args .self) (BeginSteal (c .before .before .before .args .thief))
-    ≡ cond runs (done Place (c .before .before .before .args .self)) (thiefGoesOn (c .before .before .before .args .thief) StealLock (c .before .before .before .args .self))
+    → obey (c .before .before .before .before .before .args .self) (BeginSteal (c .before .before .before .before .before .args .thief))
+    ≡ cond runs (done Place (c .before .before .before .before .before .args .self)) (thiefGoesOn (c .before .before .before .before .before .args .thief) StealLock (c .before .before .before .before .before .args .self))
 decided c told =
-    obey-by (c .before .before .before .args .self) (BeginSteal (c .before .before .before .args .thief)) (there (c .before))
+    obey-by (c .before .before .before .before .before .args .self) (BeginSteal (c .before .before .before .before .before .args .thief)) (there (c .before))
     ∙ by-test _ _ (known (ap thiefRuns (c .thief-call .ensures)) told)
 
 returns : tie.Need-returns
-returns c = c .waits .ensures ∙ sym (obey-by (c .before .before .before .args .self) (BeginSteal (c .before .before .before .args .thief)) (denied (c .before .before .ready-for-thief .ensures) (c .before .if1 .taken)))
+returns c = c .waits .ensures ∙ sym (obey-by (c .before .before .before .before .before .args .self) (BeginSteal (c .before .before .before .before .before .args .thief)) (denied (tested (c .before .before)) (c .before .if1 .taken)))
 
 thief-call-requires : tie.Need-thief-call-requires
 thief-call-requires c κs = below c
@@ -62,4 +67,4 @@ returns-3 : tie.Need-returns-3
 returns-3 c = c .out-of-place .ensures ∙ sym (decided (c .before .before) (sym (later-runs (c .before .before .thief-call .result) (c .before .match .keys2))))
 
 pub begin-steal-spec : {M : Type 1} → statement M
-begin-steal-spec = tie.close (tie.spec (λ c κs. search needs) (λ c κs. search needs) returns thief-call-requires (λ c. search needs) thief-comes-to-requires returns-2 (λ c κs. search needs) returns-3)
+begin-steal-spec = tie.close (tie.spec (λ c κs. search needs) (λ c κs. search needs) (λ c κs. search needs) returns thief-call-requires (λ c. search needs) thief-comes-to-requires returns-2 (λ c κs. search needs) returns-3)

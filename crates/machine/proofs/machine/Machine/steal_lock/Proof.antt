@@ -5,10 +5,10 @@ use Rattle.machine.proofs.machine.Machine.steal_lock.Statement.{stateme
 use Rattle.machine.proofs.machine.Machine.steal_lock.Tie as tie
 
 returns : tie.Need-returns
-returns c = simp (c .thief-comes-to .ensures, c .before .with-lock .ensures, known (c .before .before .before .is-free .ensures) (c .before .before .if1 .taken))
+returns c = simp (c .thief-comes-to .ensures, known (c .before .before .is-free .ensures) (c .before .if1 .taken))
 
 returns-2 : tie.Need-returns-2
 returns-2 c = simp (c .waits .ensures, known (c .before .before .is-free .ensures) (c .before .if1 .left))
 
 pub steal-lock-spec : {M : Type 1} → statement M
-steal-lock-spec = tie.close (tie.spec (λ c κs. search needs) (λ c κs. search needs) (λ c κs. search needs) returns (λ c κs. search needs) returns-2)
+steal-lock-spec = tie.close (tie.spec (λ c κs. search needs) (λ c κs. search needs) returns (λ c κs. search needs) returns-2)

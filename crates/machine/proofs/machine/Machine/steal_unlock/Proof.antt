@@ -4,7 +4,7 @@ use Rattle.machine.proofs.machine.Machine.steal_unlock.Statement.{state
 use Rattle.machine.proofs.machine.Machine.steal_unlock.Tie as tie
 
 returns : tie.Need-returns
-returns c = simp (c .thief-comes-to .ensures, c .before .with-lock .ensures)
+returns c = c .thief-comes-to .ensures
 
 pub steal-unlock-spec : {M : Type 1} → statement M
-steal-unlock-spec = tie.close (tie.spec (λ c κs. search needs) (λ c κs. search needs) returns)
+steal-unlock-spec = tie.close (tie.spec (λ c κs. search needs) returns)

@@ -6,8 +6,8 @@ use Rattle.machine.proofs.machine.Machine.take_lock.Tie as tie
 
 returns : tie.Need-returns
 returns c =
-    let met = known (c .before .before .before .both .ensures) (c .before .before .if1 .taken) in
-    simp (c .worker-comes-to .ensures, c .before .with-lock .ensures, simp (c .before .before .before .before .before .is-free .ensures) at met)
+    let met = known (c .before .before .both .ensures) (c .before .if1 .taken) in
+    simp (c .worker-comes-to .ensures, simp (c .before .before .before .before .is-free .ensures) at met)
 
 returns-2 : tie.Need-returns-2
 returns-2 c =
@@ -15,4 +15,4 @@ returns-2 c =
     simp (c .waits .ensures, simp (c .before .before .before .before .is-free .ensures) at unmet)
 
 pub take-lock-spec : {M : Type 1} → statement M
-take-lock-spec = tie.close (tie.spec (λ c κs. search needs) (λ c κs. search needs) (λ c κs. search needs) (λ c κs. search needs) returns (λ c κs. search needs) returns-2)
+take-lock-spec = tie.close (tie.spec (λ c κs. search needs) (λ c κs. search needs) (λ c κs. search needs) returns (λ c κs. search needs) returns-2)
