@@ -8,11 +8,11 @@ use Rattle.writer.specs.declared.writer.Writing.the-variants as writing
 use Rattle.number.specs.Number.{wordPut}
 use Rattle.exports.specs.Types.{Accepted, Alike, FirstRefused, Likeness, NotAlike, Ran, Reading, Refusal, Running, SecondRefused, Sizes, Tally, Writing, Written}
 
--- a refusal as one number of 64 bits: its number in the upper half, its place in the lower, which has room for every place of a file
+-- a refusal as one number of 64 bits: its number in the upper half, and in the lower the 32 lowest bits of its place. Places are below 4,097, so that is the place.
 abbrev pub refusalAnswer : Refusal → ℕ
 refusalAnswer r = numberOf r * 4294967296 + placeOf r % 4294967296
 
--- numbers put one behind the other into lent bytes, four bytes each, the least significant first; one that does not fit is left out
+-- numbers put one behind the other into lent bytes, four bytes each, the least significant first; one that does not fit is left out, which 01 leaves open
 abbrev pub wordsPut : ℕ → List ℕ → List ℕ → List ℕ
 wordsPut at [] bytes = bytes
 wordsPut at (n ∷ ns) bytes = wordsPut (at + 4) ns (wordPut at n bytes)
@@ -28,6 +28,7 @@ readingAnswer (reading.Refused r) = refusalAnswer r
 abbrev pub sizesPut : Sizes → List ℕ → List ℕ
 sizesPut s bytes = wordsPut 0 (s .slots ∷ s .buffer ∷ s .spacing ∷ s .margin ∷ s .thieves ∷ s .start ∷ []) bytes
 
+-- what the bytes that are lent for the sizes hold afterwards
 abbrev pub sizesAfter : Reading → List ℕ → List ℕ
 sizesAfter (Accepted s entries) bytes = sizesPut s bytes
 sizesAfter (reading.Refused r) bytes = bytes
@@ -43,6 +44,7 @@ runningAnswer (running.Refused r) = refusalAnswer r
 abbrev pub totalsPut : Tally → List ℕ → List ℕ
 totalsPut t bytes = wordsPut 0 (t .given ∷ t .aborts ∷ t .waits ∷ []) bytes
 
+-- what the bytes that are lent for the totals hold afterwards
 abbrev pub totalsAfter : Running → List ℕ → List ℕ
 totalsAfter (Ran t) bytes = totalsPut t bytes
 totalsAfter (running.Refused r) bytes = bytes

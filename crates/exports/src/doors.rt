@@ -21,7 +21,7 @@ use terms::needed_margin;
 use writer::Writing;
 use writer::write;
 
-// Reads a schedule file. Tells the number of its entries, and puts its six sizes, as written, into 24 bytes.
+// Reads a schedule file. Tells the number of its entries, and puts its six sizes, as written, into the 24 bytes that are lent for them.
 #[no_mangle]
 pub extern "C" fn rehearsal_read(file: &[u8], sizes: &mut [u8]) -> u64
     ensures { λ r. ⌜ r ≡ readingAnswer (readFile (now (file .entry))) ⌝ }
@@ -35,7 +35,7 @@ pub extern "C" fn rehearsal_read(file: &[u8], sizes: &mut [u8]) -> u64
     entries as u64
 }
 
-// Runs a schedule file and writes its trace. Tells 0, and puts the totals, given, aborts and waits, into 12 bytes.
+// Runs a schedule file and writes its trace. Tells 0, and puts the totals, given, aborts and waits, into the 12 bytes that are lent for them.
 #[no_mangle]
 pub extern "C" fn rehearsal_run(file: &[u8], trace: &mut [u8], totals: &mut [u8]) -> u64
     ensures { λ r. ⌜ r ≡ runningAnswer (runFile (now (file .entry)) (length (now (trace .entry)))) ⌝ }

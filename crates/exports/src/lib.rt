@@ -1,13 +1,15 @@
-// The doors of the rehearsal bench for programs in C and in Rust: a static library of functions by their plain names.
+// The doors of the rehearsal bench for programs in C and in Rust: a static library of functions with C's names and calls.
 //
-// Each door is a call of one public function of the libraries below, and its promise is that function's, told in numbers: nothing
-// but numbers and slices of them crosses. To C, a slice is two arguments, where it starts and how many elements it has; a number
-// of bytes is a `size_t`. No door asks anything of its caller beyond what a slice is: memory that is there, and that nobody else
-// changes meanwhile.
+// Each door is a call of one public function of the libraries below, and answers what that function answers, told in numbers: nothing
+// but numbers and slices of numbers crosses. To C, a slice is two arguments, where it starts and how many elements it has, a `size_t`.
+// A door asks nothing of its caller beyond what a slice is: a pointer that is not null, also for no elements, to memory that is there, aligned
+// for 32-bit numbers where they are such; nobody changes it meanwhile, and memory that is lent for writing shares none with
+// another slice of the call.
 //
-// But for `rehearsal_needed_margin` every door answers one 64-bit number. Its upper half is the number of the refusal, or 0; its lower half
-// is then the place of the refusal, or what the door tells. What takes more than a number is written into memory that
-// the caller lends, and a refusal leaves that memory as it was.
+// But for `rehearsal_needed_margin` every door answers one number of 64 bits. Where a file is refused, its upper half is the number of
+// the refusal and its lower half the place. Otherwise the upper half is 0, and the lower half is what the door tells. What takes
+// more than that is written into memory that the caller lends, and a refusal leaves that memory as it was. Sizes and totals have
+// four bytes each, the least significant first; those for which too few bytes are lent are left out.
 //
 // In C:
 //

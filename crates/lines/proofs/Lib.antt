@@ -1,3 +1,4 @@
 pub mod Laws
+pub mod Decimal
 pub mod Input
 pub mod Examples

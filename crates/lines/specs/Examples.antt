@@ -11,7 +11,7 @@ use Rattle.lines.specs.Text.{ascii, decimal}
 use Rattle.lines.specs.Lines.{linesOf}
 
 pub data Row : Type 0 where
-  -- sizes, kinds and operands of a file, and what is printed of it
+  -- sizes, kinds and operands of a file, and what is printed for it
   prints : Sizes → (kinds operands : List ℕ) → String → Row
   -- a number, and how it is written
   writes : ℕ → String → Row

@@ -1,13 +1,16 @@
 ghost use mathlib.Core.Path.{_≡_};
+ghost use mathlib.Core.List.{[], _∷_};
 ghost use Prim.Native.Nat.{_+_, _*_, _≤_, _<_};
 ghost use lib.ListN.{length, replicate};
 ghost use Rattle.number.specs.Number.{overwritten};
 ghost use Rattle.schedule.specs.Reader.{readFile};
-ghost use Rattle.lines.specs.Lines.{linesOf, marginWord, refusalLine, sizesLine, threeNumbers, totalsLine, traceLines};
+ghost use Rattle.lines.specs.FromTrace.{linesFromTrace, threeNumbers};
+ghost use Rattle.lines.specs.Lines.{linesOf, marginWord, refusalLine, sizesLine, totalsLine};
+ghost use Rattle.lines.specs.Text.{line};
 ghost use Rattle.lines.specs.Types.{Accepted};
 ghost use Rattle.terms.specs.Refusal.{placeOf};
+use crate::text::put_bytes;
 use crate::text::put_number;
-use crate::text::put_word;
 use number::word_at;
 use schedule::Reading;
 use schedule::Running;
@@ -19,12 +22,12 @@ use terms::Sizes;
 use terms::Tally;
 use terms::needed_margin;
 
-// The bytes of the longest trace, that of 4,096 entries.
+// How many bytes the longest trace has, that of 4,096 entries.
 const LONGEST_TRACE: usize = 20484;
 
-// At least as many bytes as the longest text has: a number and the byte behind it take at most 11, so the first line takes at most 73, each
-// of 4,096 entries 33, and the last line 52.
-pub const LONGEST_TEXT: usize = 135293;
+// Room for every text: a number and the byte behind it take at most 11, so the first line takes at most 73, each of 4,096 entries 33, and
+// the last line 52.
+pub const TEXT_ROOM: usize = 135293;
 
 // The byte between two numbers or words, and the one behind a line.
 const SPACE: u8 = 32;
@@ -34,7 +37,7 @@ const NEWLINE: u8 = 10;
 // Lines as text.
 pub struct Text {
     // The text stands at the front; zeros are behind it.
-    pub bytes: [u8; LONGEST_TEXT],
+    pub bytes: [u8; TEXT_ROOM],
     // How many bytes it has.
     pub length: usize,
 }
@@ -42,13 +45,13 @@ pub struct Text {
 // Puts the word that ends the first line: whether the margin in use is enough. Answers where it ends.
 fn put_margin_word(text: &mut [u8], at: usize, sizes: Sizes) -> usize
     requires { ⌜ at + 7 ≤ length (now text) ⌝ }
-    ensures { λ r. ⌜ (r ≡ at + length (marginWord sizes)) × (r ≤ at + 7) ⌝ }
-    ensures { λ _. ⌜ now (text .exit) ≡ overwritten at (marginWord sizes) (now (text .entry)) ⌝ }
+    ensures { λ r. ⌜ (r ≡ at + length (line (marginWord sizes ∷ []))) × (r ≤ at + 7) ⌝ }
+    ensures { λ _. ⌜ now (text .exit) ≡ overwritten at (line (marginWord sizes ∷ [])) (now (text .entry)) ⌝ }
 {
     if needed_margin(sizes.buffer, sizes.spacing) <= sizes.margin_in_use() {
-        return put_word(text, at, b"enough\n");
+        return put_bytes(text, at, b"enough\n");
     }
-    put_word(text, at, b"short\n")
+    put_bytes(text, at, b"short\n")
 }
 
 // Puts the first line, at the front. Answers where it ends.
@@ -81,8 +84,8 @@ fn put_entry(text: &mut [u8], at: usize, entry: u32, outcome: u8, value: u32) ->
 // Puts the lines of all entries of a trace. Answers where they end.
 fn put_entries(text: &mut [u8], from: usize, entries: usize, trace: &[u8]) -> usize
     requires { ⌜ (from + 33 * entries ≤ length (now text)) × (4 + 5 * entries ≤ length (now trace)) × (entries ≤ 4096) ⌝ }
-    ensures { λ r. ⌜ (r ≡ from + length (traceLines entries (now (trace .entry)))) × (r ≤ from + 33 * entries) ⌝ }
-    ensures { λ _. ⌜ now (text .exit) ≡ overwritten from (traceLines entries (now (trace .entry))) (now (text .entry)) ⌝ }
+    ensures { λ r. ⌜ (r ≡ from + length (linesFromTrace entries (now (trace .entry)))) × (r ≤ from + 33 * entries) ⌝ }
+    ensures { λ _. ⌜ now (text .exit) ≡ overwritten from (linesFromTrace entries (now (trace .entry))) (now (text .entry)) ⌝ }
 {
     let mut end = from;
     let mut at = 0;
@@ -100,11 +103,11 @@ fn put_totals(text: &mut [u8], at: usize, tally: Tally) -> usize
     ensures { λ r. ⌜ (r ≡ at + length (totalsLine tally)) × (r ≤ at + 52) ⌝ }
     ensures { λ _. ⌜ now (text .exit) ≡ overwritten at (totalsLine tally) (now (text .entry)) ⌝ }
 {
-    let mut end = put_word(text, at, b"given ");
+    let mut end = put_bytes(text, at, b"given ");
     end = put_number(text, end, tally.given, SPACE);
-    end = put_word(text, end, b"aborts ");
+    end = put_bytes(text, end, b"aborts ");
     end = put_number(text, end, tally.aborts, SPACE);
-    end = put_word(text, end, b"waits ");
+    end = put_bytes(text, end, b"waits ");
     put_number(text, end, tally.waits, NEWLINE)
 }
 
@@ -116,9 +119,9 @@ fn put_refusal(text: &mut [u8], refusal: Refusal) -> usize
 {
     let number = refusal.number();
     let place = refusal.place();
-    let mut end = put_word(text, 0, b"refused ");
+    let mut end = put_bytes(text, 0, b"refused ");
     end = put_number(text, end, number as u32, SPACE);
-    end = put_word(text, end, b"place ");
+    end = put_bytes(text, end, b"place ");
     put_number(text, end, place as u32, NEWLINE)
 }
 
@@ -139,7 +142,7 @@ fn put_run(text: &mut [u8], file: &[u8], sizes: Sizes, entries: usize) -> usize
     put_totals(text, last, tally)
 }
 
-// Puts what the program prints of a file. Answers where it ends.
+// Puts what the program prints for a file. Answers where it ends.
 fn put_lines(text: &mut [u8], file: &[u8]) -> usize
     requires { ⌜ 135293 ≤ length (now text) ⌝ }
     ensures { λ r. ⌜ (r ≡ length (linesOf (now (file .entry)))) × (r ≤ 135293) ⌝ }
@@ -152,12 +155,12 @@ fn put_lines(text: &mut [u8], file: &[u8]) -> usize
     put_run(text, file, sizes, entries)
 }
 
-// What the program prints of a file.
+// What the program prints for a file.
 pub fn lines_of(file: &[u8]) -> Text
     ensures { λ r. ⌜ (r .length ≡ length (linesOf (now (file .entry)))) × (r .length ≤ length (r .bytes)) ⌝ }
     ensures { λ r. ⌜ r .bytes ≡ overwritten 0 (linesOf (now (file .entry))) (replicate 135293 0) ⌝ }
 {
-    let mut bytes = [0; LONGEST_TEXT];
+    let mut bytes = [0; TEXT_ROOM];
     let length = put_lines(&mut bytes, file);
     Text {
         bytes: bytes,

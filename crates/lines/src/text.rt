@@ -3,9 +3,9 @@ ghost use mathlib.Core.List.{[], _∷_, _++_};
 ghost use Prim.Native.Nat.{_+_, _≤_, _<_};
 ghost use lib.ListN.{length};
 ghost use Rattle.number.specs.Number.{overwritten};
-ghost use Rattle.lines.specs.Text.{decimal, digit, written};
+ghost use Rattle.lines.specs.Text.{decimal, digit, shown};
 
-// What each place of a number counts, the greatest first. A number of 32 bits has at most ten.
+// The value of each decimal place, the greatest first. A number of 32 bits has at most ten.
 const UNITS: [u32; 10] = [
     1000000000,
     100000000,
@@ -19,20 +19,20 @@ const UNITS: [u32; 10] = [
     1,
 ];
 
-// Whether a number's digit at a place is written. The places in front of its first digit are not.
-fn is_written(n: u32, unit: u32) -> bool
-    ensures { λ r. ⌜ r ≡ written n unit ⌝ }
+// Whether a number's digit at a place is shown. The places in front of its first digit are not.
+fn is_shown(n: u32, unit: u32) -> bool
+    ensures { λ r. ⌜ r ≡ shown n unit ⌝ }
 {
     if unit <= n { true } else { unit == 1 }
 }
 
-// Puts the digit of a number at one place, if it is written. Answers where the text ends.
+// Puts the digit of a number at one place, if it is shown. Answers where the text ends.
 fn put_digit(text: &mut [u8], at: usize, n: u32, unit: u32) -> usize
     requires { ⌜ (at < length (now text)) × (0 < unit) ⌝ }
     ensures { λ r. ⌜ (r ≡ at + length (digit n unit)) × (r ≤ at + 1) ⌝ }
     ensures { λ _. ⌜ now (text .exit) ≡ overwritten at (digit n unit) (now (text .entry)) ⌝ }
 {
-    if is_written(n, unit) {
+    if is_shown(n, unit) {
         text[at] = 48 + (n / unit % 10) as u8;
         return at + 1;
     }
@@ -56,16 +56,16 @@ pub(crate) fn put_number(text: &mut [u8], at: usize, n: u32, behind: u8) -> usiz
     end + 1
 }
 
-// Puts a word. Answers where the text ends.
-pub(crate) fn put_word(text: &mut [u8], at: usize, word: &[u8]) -> usize
-    requires { ⌜ at + length (now word) ≤ length (now text) ⌝ }
-    ensures { λ r. ⌜ r ≡ at + length (now (word .entry)) ⌝ }
-    ensures { λ _. ⌜ now (text .exit) ≡ overwritten at (now (word .entry)) (now (text .entry)) ⌝ }
+// Puts bytes as they are. Answers where the text ends.
+pub(crate) fn put_bytes(text: &mut [u8], at: usize, bytes: &[u8]) -> usize
+    requires { ⌜ at + length (now bytes) ≤ length (now text) ⌝ }
+    ensures { λ r. ⌜ r ≡ at + length (now (bytes .entry)) ⌝ }
+    ensures { λ _. ⌜ now (text .exit) ≡ overwritten at (now (bytes .entry)) (now (text .entry)) ⌝ }
 {
     let mut i = 0;
-    while i < word.len() {
-        text[at + i] = word[i];
+    while i < bytes.len() {
+        text[at + i] = bytes[i];
         i += 1;
     }
-    at + word.len()
+    at + bytes.len()
 }

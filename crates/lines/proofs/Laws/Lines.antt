@@ -29,7 +29,8 @@ use Rattle.schedule.proofs.Laws.Format.{decode-below}
 use Rattle.schedule.proofs.Laws.Run.{file-values-fit, length-outcomesOf, schedule-length}
 use Rattle.schedule.proofs.Laws.Trace.{lineIn-written}
 use Rattle.lines.specs.Types.{Accepted, Outcome, Refusal, Sizes}
-use Rattle.lines.specs.Lines.{entryLine, entryLines, threeNumbers, traceLine, traceLines}
+use Rattle.lines.specs.FromTrace.{lineFromTrace, linesFromTrace, threeNumbers}
+use Rattle.lines.specs.Lines.{entryLine, entryLines}
 
 -- ── The lines of the entries ────────────────────────────────────────────────────────────────────────────────────────────────
 
@@ -45,14 +46,14 @@ gather-lines f (o ∷ os) k same =
 
 -- the lines of all entries, from the trace of an accepted file
 pub trace-lines : (file l : List ℕ) (s : Sizes) (n : ℕ) → readFile file ≡ Accepted s n → allBelow 256 file ≡ true
-    → traceLines n (overwritten 0 (traceOf (outcomesIn file)) l) ≡ entryLines 0 (outcomesIn file)
+    → linesFromTrace n (overwritten 0 (traceOf (outcomesIn file)) l) ≡ entryLines 0 (outcomesIn file)
 trace-lines file l s n accepted bytes =
     let os = outcomesIn file in
     let trace = overwritten 0 (traceOf os) l in
     let as-many : length os ≡ n = length-outcomesOf (fresh (sizesIn file)) (scheduleIn file) ∙ schedule-length file s n accepted in
-    ap (λ k. traceLines k trace) (sym as-many)
-    ∙ gather-lines (traceLine (length os) trace) os 0
-    (λ i there. ap (λ k. traceLine (length os) trace k) (zero-add i) ∙ ap (λ line. threeNumbers i (line .number) (line .value)) (lineIn-written os l i (file-values-fit file bytes) there) ∙ ap (λ k. entryLine k (getD os i Moved)) (sym (zero-add i)))
+    ap (λ k. linesFromTrace k trace) (sym as-many)
+    ∙ gather-lines (lineFromTrace (length os) trace) os 0
+    (λ i there. ap (λ k. lineFromTrace (length os) trace k) (zero-add i) ∙ ap (λ line. threeNumbers i (line .number) (line .value)) (lineIn-written os l i (file-values-fit file bytes) there) ∙ ap (λ k. entryLine k (getD os i Moved)) (sym (zero-add i)))
 
 -- ── The place of a refusal ──────────────────────────────────────────────────────────────────────────────────────────────────
 

@@ -1,7 +1,7 @@
 -- Laws of text that is put piece by piece, each right behind the one before: digits, and what is gathered over places.
 use mathlib.Core.Path.{_≡_, refl, ap, _∙_}
 use mathlib.Core.Bool.{true}
-use mathlib.Core.List.{List, [], _∷_, _++_, append-nil}
+use mathlib.Core.List.{List, [], _∷_, _++_, append-assoc, append-nil}
 use Prim.Native.Nat.{ℕ, zero, suc, _+_, _≤_, _<_}
 use native.Mathlib.Nat.{le-of-suc-le-suc, not-suc-le-zero}
 use native.Mathlib.Numerals.{add-one}
@@ -15,7 +15,7 @@ use Rattle.machine.specs.Lists.{all, gather, upTo}
 use Rattle.machine.proofs.Laws.Sums.{gather-append, upTo-suc}
 use Rattle.number.specs.Number.{overwritten}
 use Rattle.number.proofs.Laws.Overwritten.{overwritten-behind, overwritten-nothing}
-use Rattle.lines.specs.Text.{units}
+use Rattle.lines.specs.Text.{ascii, line, units}
 
 -- A piece was put at a place: what is there afterwards, and where the piece ends.
 pub record Put (at : ℕ) (new before after : List ℕ) (end : ℕ) : Type 0 where
@@ -38,6 +38,26 @@ put-more at new more before inside p ended put =
 pub put-as : (at : ℕ) (before : List ℕ) {new other after : List ℕ} {end : ℕ} → new ≡ other → Put at new before after end → Put at other before after end
 put-as at before same p =
     record { there = p .there ∙ ap (λ l. overwritten at l before) same; ends = p .ends ∙ ap (λ l. at + length l) same }
+
+-- ── Lines ───────────────────────────────────────────────────────────────────────────────────────────────────────────────────
+
+-- Words that each have a space behind them, and a last one with a line end behind it, are a line.
+
+pub three-words : (a b c : List ℕ) → (a ++ ascii " ") ++ (b ++ ascii " ") ++ (c ++ ascii "\n") ≡ line (a ∷ b ∷ c ∷ [])
+three-words a b c = simp append-assoc
+
+pub four-words : (a b c d : List ℕ) → (a ++ ascii " ") ++ (b ++ ascii " ") ++ (c ++ ascii " ") ++ (d ++ ascii "\n") ≡ line (a ∷ b ∷ c ∷ d ∷ [])
+four-words a b c d = simp append-assoc
+
+pub six-words : (a b c d e f : List ℕ)
+    → (a ++ ascii " ") ++ (b ++ ascii " ") ++ (c ++ ascii " ") ++ (d ++ ascii " ") ++ (e ++ ascii " ") ++ (f ++ ascii "\n")
+    ≡ line (a ∷ b ∷ c ∷ d ∷ e ∷ f ∷ [])
+six-words a b c d e f = simp append-assoc
+
+pub seven-words : (a b c d e f g : List ℕ)
+    → (a ++ ascii " ") ++ (b ++ ascii " ") ++ (c ++ ascii " ") ++ (d ++ ascii " ") ++ (e ++ ascii " ") ++ (f ++ ascii " ") ++ (g ++ ascii "\n")
+    ≡ line (a ∷ b ∷ c ∷ d ∷ e ∷ f ∷ g ∷ [])
+seven-words a b c d e f g = simp append-assoc
 
 -- ── What is gathered over places ────────────────────────────────────────────────────────────────────────────────────────────
 

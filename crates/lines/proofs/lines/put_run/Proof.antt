@@ -11,7 +11,8 @@ use Rattle.schedule.specs.Run.{outcomesIn}
 use Rattle.schedule.specs.Totals.{tallyOf}
 use Rattle.schedule.proofs.Laws.Bytes.{each-below}
 use Rattle.schedule.proofs.Laws.Run.{longest-after, longest-fits, not-both-run, parts-obeyed, run-into-longest}
-use Rattle.lines.specs.Lines.{entryLines, linesFor, sizesLine, totalsLine, traceLines}
+use Rattle.lines.specs.FromTrace.{linesFromTrace}
+use Rattle.lines.specs.Lines.{linesFor, sizesLine, totalsLine}
 use Rattle.lines.proofs.Laws.Lines.{trace-lines}
 use Rattle.lines.proofs.Laws.Text.{Put, put-as, put-more}
 use Rattle.lines.proofs.lines.put_run.Statement.{statement}
@@ -58,12 +59,12 @@ returns-2 c =
     let bytes = each-below 256 file (λ i. omega (arith, ran .before .before .shared-slice-known .given i)) in
     let few = parts-obeyed file (a .sizes) (a .entries) (start .pre .1) .few in
     let trace = longest-after file (a .sizes) (a .entries) (start .pre .1) (ran .run .ensures .1 .0) in
-    let lines = ap (traceLines (a .entries)) trace ∙ trace-lines file (replicate 20484 0) (a .sizes) (a .entries) (start .pre .1) bytes in
+    let lines = ap (linesFromTrace (a .entries)) trace ∙ trace-lines file (replicate 20484 0) (a .sizes) (a .entries) (start .pre .1) bytes in
     let ran-to = sym (known (ran .run .ensures .0) (told .running .given .1)) ∙ run-into-longest file (a .sizes) (a .entries) (start .pre .1) in
     let tally : told .running .given .0 .0 ≡ tallyOf (outcomesIn file) = cc in
     let one : Put 0 (sizesLine (a .sizes)) text _ _ = record { there = put .put-sizes .ensures .1; ends = put .put-sizes .ensures .0 .0 ∙ sym (zero-add _) } in
-    let two = put-more 0 (sizesLine (a .sizes)) (traceLines (a .entries) (ran .run .last .1 .0)) text (omega arith) one (entries .put-entries .ensures .0 .0) (entries .put-entries .ensures .1) in
-    let three = put-more 0 (sizesLine (a .sizes) ++ traceLines (a .entries) (ran .run .last .1 .0)) (totalsLine (told .running .given .0 .0)) text (omega arith) two (totals .put-totals .ensures .0 .0) (totals .put-totals .ensures .1) in
+    let two = put-more 0 (sizesLine (a .sizes)) (linesFromTrace (a .entries) (ran .run .last .1 .0)) text (omega arith) one (entries .put-entries .ensures .0 .0) (entries .put-entries .ensures .1) in
+    let three = put-more 0 (sizesLine (a .sizes) ++ linesFromTrace (a .entries) (ran .run .last .1 .0)) (totalsLine (told .running .given .0 .0)) text (omega arith) two (totals .put-totals .ensures .0 .0) (totals .put-totals .ensures .1) in
     let all = put-as 0 text ((λ i. sizesLine (a .sizes) ++ lines i ++ totalsLine (tally i)) ∙ sym (ap (linesFor file) (start .pre .1))) three in
     ((all .ends ∙ zero-add _, omega (arith, totals .put-totals .ensures .0 .1, entries .put-entries .ensures .0 .1, put .put-sizes .ensures .0 .1, few)), all .there)
 

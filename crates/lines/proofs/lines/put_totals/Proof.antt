@@ -2,9 +2,8 @@
 use mathlib.Core.List.{_++_}
 use native.Mathlib.Omega.{arith}
 use borrow.Author.Needs.{needs}
-use Rattle.lines.specs.Lines.{lastNumber, number}
-use Rattle.lines.specs.Text.{ascii}
-use Rattle.lines.proofs.Laws.Text.{Put, put-more}
+use Rattle.lines.specs.Text.{ascii, decimal}
+use Rattle.lines.proofs.Laws.Text.{Put, put-as, put-more, six-words}
 use Rattle.lines.proofs.lines.put_totals.Statement.{statement}
 use Rattle.lines.proofs.lines.put_totals.Tie as tie
 
@@ -18,16 +17,17 @@ returns c =
     let first = second .before .before .before .before in
     let a = first .before .before .before .before .args in
     let text = a .text .now in
-    let given = number (a .tally .given) in
-    let aborts = number (a .tally .aborts) in
-    let waits = lastNumber (a .tally .waits) in
-    let one : Put (a .at) (ascii "given ") text _ _ = record { there = first .put-word .ensures .1; ends = first .put-word .ensures .0 } in
-    let two = put-more (a .at) (ascii "given ") (given) text (omega arith) one (second .put-number .ensures .0 .0) (second .put-number .ensures .1) in
-    let three = put-more (a .at) (ascii "given " ++ given) (ascii "aborts ") text (omega arith) two (third .put-word2 .ensures .0) (third .put-word2 .ensures .1) in
-    let four = put-more (a .at) (ascii "given " ++ given ++ ascii "aborts ") (aborts) text (omega arith) three (fourth .put-number2 .ensures .0 .0) (fourth .put-number2 .ensures .1) in
-    let five = put-more (a .at) (ascii "given " ++ given ++ ascii "aborts " ++ aborts) (ascii "waits ") text (omega arith) four (fifth .put-word3 .ensures .0) (fifth .put-word3 .ensures .1) in
-    let six = put-more (a .at) (ascii "given " ++ given ++ ascii "aborts " ++ aborts ++ ascii "waits ") (waits) text (omega arith) five (sixth .put-number3 .ensures .0 .0) (sixth .put-number3 .ensures .1) in
-    ((six .ends, omega arith), six .there)
+    let given = decimal (a .tally .given) in
+    let aborts = decimal (a .tally .aborts) in
+    let waits = decimal (a .tally .waits) in
+    let one : Put (a .at) (ascii "given ") text _ _ = record { there = first .put-bytes .ensures .1; ends = first .put-bytes .ensures .0 } in
+    let two = put-more (a .at) (ascii "given ") (given ++ ascii " ") text (omega arith) one (second .put-number .ensures .0 .0) (second .put-number .ensures .1) in
+    let three = put-more (a .at) (ascii "given " ++ (given ++ ascii " ")) (ascii "aborts ") text (omega arith) two (third .put-bytes2 .ensures .0) (third .put-bytes2 .ensures .1) in
+    let four = put-more (a .at) (ascii "given " ++ (given ++ ascii " ") ++ ascii "aborts ") (aborts ++ ascii " ") text (omega arith) three (fourth .put-number2 .ensures .0 .0) (fourth .put-number2 .ensures .1) in
+    let five = put-more (a .at) (ascii "given " ++ (given ++ ascii " ") ++ ascii "aborts " ++ (aborts ++ ascii " ")) (ascii "waits ") text (omega arith) four (fifth .put-bytes3 .ensures .0) (fifth .put-bytes3 .ensures .1) in
+    let six = put-more (a .at) (ascii "given " ++ (given ++ ascii " ") ++ ascii "aborts " ++ (aborts ++ ascii " ") ++ ascii "waits ") (waits ++ ascii "\n") text (omega arith) five (sixth .put-number3 .ensures .0 .0) (sixth .put-number3 .ensures .1) in
+    let all = put-as (a .at) text (six-words (ascii "given") given (ascii "aborts") aborts (ascii "waits") waits) six in
+    ((all .ends, omega arith), all .there)
 
 pub put-totals-spec : {M : Type 1} → statement M
 put-totals-spec =

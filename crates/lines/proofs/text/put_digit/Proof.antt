@@ -15,7 +15,7 @@ use Rattle.lines.proofs.text.put_digit.Tie as tie
 returns : tie.Need-returns
 returns c =
     let a = c .before .before .before .args in
-    let shown : digit (a .n) (a .unit) ≡ (48 + a .n / a .unit % 10) ∷ [] = by-test _ _ (known (c .before .is-written .ensures) (c .if1 .taken)) in (
+    let shown : digit (a .n) (a .unit) ≡ (48 + a .n / a .unit % 10) ∷ [] = by-test _ _ (known (c .before .is-shown .ensures) (c .if1 .taken)) in (
       (ap (λ l. a .at + length l) (sym shown), omega arith),
       overwritten-one (a .at) (48 + a .n / a .unit % 10) (a .text .now) (omega arith) ∙ ap (λ l. overwritten (a .at) l (a .text .now)) (sym shown),
     )
@@ -23,7 +23,7 @@ returns c =
 returns-2 : tie.Need-returns-2
 returns-2 c =
     let a = c .before .before .before .args in
-    let hidden : digit (a .n) (a .unit) ≡ [] = by-test _ _ (known (c .before .is-written .ensures) (c .if1 .left)) in (
+    let hidden : digit (a .n) (a .unit) ≡ [] = by-test _ _ (known (c .before .is-shown .ensures) (c .if1 .left)) in (
       (omega arith ∙ ap (λ l. a .at + length l) (sym hidden), omega arith),
       overwritten-nothing (a .at) (a .text .now) ∙ ap (λ l. overwritten (a .at) l (a .text .now)) (sym hidden),
     )
