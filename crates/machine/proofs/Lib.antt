@@ -1,4 +1,3 @@
 pub mod Laws
 pub mod Rehearsals
 pub mod Linearizable
-pub mod Renumbering

@@ -11,7 +11,7 @@
 -- an entry, and the order of 5 to 7 Obey
 -- the plain queue, its limits       PlainQueue
 -- where a call takes effect         Effect
--- demand 3                          Linearizable, Renumbering
+-- demand 3                          Linearizable
 -- M1 to M9, and more                Rehearsals
 pub mod Types
 pub mod Lists
@@ -26,5 +26,4 @@ pub mod Obey
 pub mod PlainQueue
 pub mod Effect
 pub mod Linearizable
-pub mod Renumbering
 pub mod Rehearsals

@@ -19,10 +19,10 @@ use Rattle.terms.proofs.Laws.Tests.{both-left, both-right, by-test, either}
 use Rattle.machine.specs.Lists.{all, gather, upTo}
 use Rattle.machine.specs.Machine.{fresh}
 use Rattle.machine.specs.Obey.{machineAfter, obey, outcomesOf}
-use Rattle.machine.specs.Renumbering.{renumberEntry, renumberOutcome}
+use Rattle.renumbering.specs.Renumbering.{renumberEntry, renumberOutcome}
 use Rattle.machine.proofs.Laws.Lists.{all-behind, all-getD}
 use Rattle.machine.proofs.Laws.Sums.{gather-append, upTo-suc}
-use Rattle.machine.proofs.Renumbering.{blind-to-numbers}
+use Rattle.renumbering.proofs.Renumbering.{blind-to-numbers}
 use Rattle.schedule.specs.Types.{BeginPut, BeginSteal, BeginTake, ClientStore, Drain, Entry, Refusal, ThiefStep, WorkerStep}
 use Rattle.schedule.specs.Types.{Accepted, Allowed, Machine, Meaning, Outcome, Passed, Ran, Room, Sizes, Tally}
 use Rattle.schedule.specs.declared.reader.Reading.the-variants as reading

@@ -6,17 +6,17 @@ use Prim.Native.Nat.{ℕ}
 use lib.Dec.{eqb}
 use lib.ListN.{List·getD-map, getD, replicate}
 use Rattle.terms.proofs.Laws.Tests.{cond-map}
-use Rattle.machine.specs.Types.{Entry, Drain, ClientStore, BeginPut, BeginTake, WorkerStep, BeginSteal, ThiefStep, Done, Index, Machine, Nobody, TheThief, Outcome, Moved, Stored, Task, Abort, Sizes, Store, StoreBuffer, StoreKind, Client, Tail, Slot, Thief, ThiefCall, StealLock, StealLoadHead, StealRaiseHead, StealLoadTail, StealLoadSlot, StealUnlockTask, StealRestoreHead, StealUnlockAbort, WorkerCall, PutLoadHead, PutStoreSlot, PutStoreTail, TakeStoreTail, TakeLoadHead, TakeLoadSlot, TakeLock, TakeReloadHead, TakeRestoreTail, TakeUnlockEmpty, TakeUnlockTask, TakeLoadLastSlot}
+use Rattle.renumbering.specs.Types.{Entry, Drain, ClientStore, BeginPut, BeginTake, WorkerStep, BeginSteal, ThiefStep, Done, Index, Machine, Nobody, TheThief, Outcome, Moved, Stored, Task, Abort, Sizes, Store, StoreBuffer, StoreKind, Client, Tail, Slot, Thief, ThiefCall, StealLock, StealLoadHead, StealRaiseHead, StealLoadTail, StealLoadSlot, StealUnlockTask, StealRestoreHead, StealUnlockAbort, WorkerCall, PutLoadHead, PutStoreSlot, PutStoreTail, TakeStoreTail, TakeLoadHead, TakeLoadSlot, TakeLock, TakeReloadHead, TakeRestoreTail, TakeUnlockEmpty, TakeUnlockTask, TakeLoadLastSlot}
 use Rattle.machine.specs.Index.{next, previous, slotOf}
 use Rattle.machine.specs.StoreBuffer.{clientStore, dropOldest, oldest, pending, slotAfter, slotsAfter, slotStore, tailAfter, tailStore}
 use Rattle.machine.specs.Machine.{done, fresh, hasRoom, idleThief, lockIsFree, memoryLoad, needing, nothingPending, thiefCall, workerLoad, workerTail}
 use Rattle.machine.specs.Update.{pushed, withHead, withLock, withMemory, withThief, withWorker}
 use Rattle.machine.specs.InRange.{inRange, storeInRange, thiefInRange, workerInRange}
 use Rattle.machine.specs.Worker.{atEnd, atOrAboveHead, countedStore, headIsPast, isFull, stepOfWorker, takeLoadSlot, tooEarly, unlessWorkerRuns, workerAnswers, workerGoesOn, workerRuns}
 use Rattle.machine.specs.Thief.{marginKept, stepOfThief, thiefRuns}
 use Rattle.machine.specs.Obey.{drain, obey, obeyInRange, outcomesOf, thiefIsThere}
-use Rattle.machine.specs.Renumbering.{BlindToNumbers, renumberEntry, renumberOutcome}
+use Rattle.renumbering.specs.Renumbering.{BlindToNumbers, renumberEntry, renumberOutcome}
 use Rattle.machine.proofs.Laws.Lists.{all-map, foldl-map, map-drop, map-replicate, map-set, map-take}
 
 -- the thieves replaced
 abbrev withThieves : List Thief → Machine → Machine

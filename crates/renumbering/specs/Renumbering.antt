@@ -5,9 +5,9 @@
 use mathlib.Core.Path.{_≡_}
 use mathlib.Core.List.{List, map}
 use Prim.Native.Nat.{ℕ}
-use Rattle.machine.specs.Types.{Entry, Drain, ClientStore, BeginPut, BeginTake, WorkerStep, BeginSteal, ThiefStep, Outcome, Moved, Place, Early, Wait, Stored, Task, Empty, Abort, Full, End, Sizes}
+use Rattle.renumbering.specs.Types.{Entry, Drain, ClientStore, BeginPut, BeginTake, WorkerStep, BeginSteal, ThiefStep, Outcome, Moved, Place, Early, Wait, Stored, Task, Empty, Abort, Full, End, Sizes}
 use Rattle.machine.specs.Machine.{fresh}
 use Rattle.machine.specs.Obey.{outcomesOf}
 
 abbrev pub renumberEntry : (ℕ → ℕ) → Entry → Entry
 renumberEntry f Drain = Drain

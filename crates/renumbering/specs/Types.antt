@@ -1,0 +1,19 @@
+-- The declared types that definitions and proofs here speak of, passed on under one name. Nothing is defined here.
+pub use Rattle.terms.specs.declared.entry.Entry.{Entry}
+pub use Rattle.terms.specs.declared.entry.Entry.the-variants.{Drain, ClientStore, BeginPut, BeginTake, WorkerStep, BeginSteal, ThiefStep}
+pub use Rattle.terms.specs.declared.outcome.Outcome.{Outcome}
+pub use Rattle.terms.specs.declared.outcome.Outcome.the-variants.{Moved, Place, Early, Wait, Stored, Task, Empty, Abort, Full, End}
+pub use Rattle.terms.specs.declared.sizes.Sizes.{Sizes}
+pub use Rattle.machine.specs.declared.index.Index.{Index}
+pub use Rattle.machine.specs.declared.machine.Done.{Done}
+pub use Rattle.machine.specs.declared.machine.Holder.the-variants.{Nobody, TheThief}
+pub use Rattle.machine.specs.declared.machine.Machine.{Machine}
+pub use Rattle.machine.specs.declared.store_buffer.Store.{Store}
+pub use Rattle.machine.specs.declared.store_buffer.StoreBuffer.{StoreBuffer}
+pub use Rattle.machine.specs.declared.store_buffer.StoreKind.{StoreKind}
+pub use Rattle.machine.specs.declared.store_buffer.StoreKind.the-variants.{Client, Tail, Slot}
+pub use Rattle.machine.specs.declared.thief.Thief.{Thief}
+pub use Rattle.machine.specs.declared.thief.ThiefCall.{ThiefCall}
+pub use Rattle.machine.specs.declared.thief.ThiefCall.the-variants.{StealLock, StealLoadHead, StealRaiseHead, StealLoadTail, StealLoadSlot, StealUnlockTask, StealRestoreHead, StealUnlockAbort}
+pub use Rattle.machine.specs.declared.worker.WorkerCall.{WorkerCall}
+pub use Rattle.machine.specs.declared.worker.WorkerCall.the-variants.{PutLoadHead, PutStoreSlot, PutStoreTail, TakeStoreTail, TakeLoadHead, TakeLoadSlot, TakeLock, TakeReloadHead, TakeRestoreTail, TakeUnlockEmpty, TakeUnlockTask, TakeLoadLastSlot}
