@@ -1,5 +1,6 @@
 ghost use mathlib.Core.Path.{_≡_};
-ghost use Rattle.exports.specs.Answer.{refusalAnswer, sizesPut, totalsPut};
+ghost use Rattle.exports.specs.Answer.{likenessAnswer, refusalAnswer, sizesPut, totalsPut};
+use comparison::Likeness;
 use number::put_word;
 use terms::Refusal;
 use terms::Sizes;
@@ -11,6 +12,18 @@ pub(crate) fn answer_of(refusal: Refusal) -> u64
 {
     let place = refusal.place() as u64;
     refusal.number() as u64 * 4294967296 + place % 4294967296
+}
+
+// What a comparison found as the number that a door answers.
+pub(crate) fn likeness_of(found: Likeness) -> u64
+    ensures { λ r. ⌜ r ≡ likenessAnswer found ⌝ }
+{
+    match found {
+        Likeness::Alike => 1,
+        Likeness::NotAlike => 0,
+        Likeness::FirstRefused(refusal) => answer_of(refusal),
+        Likeness::SecondRefused(fault) => answer_of(fault),
+    }
 }
 
 // Puts six sizes into lent memory.

@@ -7,9 +7,9 @@ ghost use Rattle.terms.specs.Sizes.{neededMargin};
 ghost use Rattle.writer.specs.Writer.{bufferAfter, writeFile};
 ghost use Rattle.exports.specs.Answer.{likenessAnswer, readingAnswer, runningAnswer, sizesAfter, sizesOf, totalsAfter, writingAnswer};
 use crate::answer::answer_of;
+use crate::answer::likeness_of;
 use crate::answer::put_sizes;
 use crate::answer::put_totals;
-use comparison::Likeness;
 use comparison::alike;
 use schedule::Reading;
 use schedule::Running;
@@ -57,13 +57,7 @@ pub extern "C" fn rehearsal_run(file: &[u8], trace: &mut [u8], totals: &mut [u8]
 pub extern "C" fn rehearsal_alike(first: &[u8], second: &[u8]) -> u64
     ensures { λ r. ⌜ r ≡ likenessAnswer (likeness (now (first .entry)) (now (second .entry))) ⌝ }
 {
-    let found = alike(first, second);
-    match found {
-        Likeness::Alike => 1,
-        Likeness::NotAlike => 0,
-        Likeness::FirstRefused(refusal) => answer_of(refusal),
-        Likeness::SecondRefused(fault) => answer_of(fault),
-    }
+    likeness_of(alike(first, second))
 }
 
 // Writes the file of six sizes, kinds and operands. Tells how many bytes the file has.
