@@ -1,4 +1,4 @@
-//! Helpers shared by the tests: schedules from lists of entries, and a small
+//! What the tests share: schedules from lists of entries, and a small
 //! generator of random ones.
 #![allow(dead_code)] // every test file uses its own part of this
 
