@@ -7,6 +7,7 @@ ghost use Rattle.schedule.specs.Reader.{readFile};
 ghost use Rattle.schedule.specs.Trace.{lineIn};
 ghost use Rattle.comparison.specs.Types.{Accepted};
 use number::word_at;
+use schedule::LONGEST_TRACE;
 use schedule::Reading;
 use schedule::SIZES_BYTES;
 use schedule::read;
@@ -14,9 +15,6 @@ use schedule::refusal_of;
 use schedule::run;
 use terms::Refusal;
 use terms::Sizes;
-
-// The bytes of the longest trace, that of 4,096 entries.
-const LONGEST_TRACE: usize = 20484;
 
 // What comparing two files comes to.
 pub enum Likeness {

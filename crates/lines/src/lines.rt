@@ -12,6 +12,7 @@ ghost use Rattle.terms.specs.Refusal.{placeOf};
 use crate::text::put_bytes;
 use crate::text::put_number;
 use number::word_at;
+use schedule::LONGEST_TRACE;
 use schedule::Reading;
 use schedule::Running;
 use schedule::read;
@@ -21,9 +22,6 @@ use terms::Refusal;
 use terms::Sizes;
 use terms::Tally;
 use terms::needed_margin;
-
-// How many bytes the longest trace has, that of 4,096 entries.
-const LONGEST_TRACE: usize = 20484;
 
 // Room for every text: a number and the byte behind it take at most 11, so the first line takes at most 73, each of 4,096 entries 33, and
 // the last line 52.

@@ -14,7 +14,7 @@
 // library `terms`. No function here asks anything of its caller. Reading order:
 //
 // - `check`: what a check comes to, and the check of the sizes;
-// - `layout`: the lengths of a file's parts;
+// - `layout`: the lengths of a file's parts, and of the longest trace;
 // - `entries`: one entry, and the first faulty one;
 // - `reader`: a file as a whole;
 // - `runner`: one step, and a run with its trace.
@@ -28,6 +28,7 @@ pub use check::Check;
 pub use check::check_ranges;
 pub use entries::entry_at;
 pub use layout::ENTRY_BYTES;
+pub use layout::LONGEST_TRACE;
 pub use layout::SIZES_BYTES;
 pub use reader::Reading;
 pub use reader::kind_part;
