@@ -1,2 +1,5 @@
+pub mod Logic
 pub mod Sizes
+pub mod Tally
 pub mod Tests
+pub mod Walk

@@ -7,7 +7,7 @@
 // - `outcome`: what an entry comes to, with its number and value in a trace;
 // - `refusal`: why a file is refused, with number and place;
 // - `kinds`: what a kind byte and its operand mean: an entry, or a refusal;
-// - `tally`: how many entries came to three of the outcomes.
+// - `tally`: how many entries came to three of the outcomes; an outcome is counted by value, or in a tally that is lent.
 mod entry;
 mod kinds;
 mod outcome;
@@ -24,3 +24,4 @@ pub use sizes::SizeCheck;
 pub use sizes::Sizes;
 pub use sizes::needed_margin;
 pub use tally::Tally;
+pub use tally::count_outcome;
