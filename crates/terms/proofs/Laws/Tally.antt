@@ -32,7 +32,10 @@ outcomes = record {
   lawful = λ 𝓤 H A W. enums.lawful outcome.the-type outcome-laws.the-laws 𝓤 H A W tt;
 }
 
-pub totals-fit : (t : Tally) → Is tally.the-row t (tallies .val t ∷ []) → (t .given < 2 ^ 32) × (t .aborts < 2 ^ 32) × (t .waits < 2 ^ 32)
+abbrev pub TotalsFit : Tally → Type 0
+TotalsFit t = (t .given < 2 ^ 32) × (t .aborts < 2 ^ 32) × (t .waits < 2 ^ 32)
+
+pub totals-fit : (t : Tally) → Is tally.the-row t (tallies .val t ∷ []) → TotalsFit t
 totals-fit t is =
     let total-is = structs.owed tally.the-type tally-laws.the-laws t _ is in
     (total-is .0 .1, total-is .1 .0 .1, total-is .1 .1 .0 .1)

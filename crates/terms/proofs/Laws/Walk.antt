@@ -1,7 +1,7 @@
 -- What proofs by hand are made of, for functions over plain data behind a `&mut`. The borrow checker covers no reference to a struct, so such a proof walks the function's code (`rt mir terms` prints it) and says what is owned at each statement.
 --
 -- How a walk reads. Its steps are joined by `$`. What is owned is a list, the context; a step takes what stands first in it, or names entries by their places, counted from 0. A comment in brackets says what the context holds. `_3; …` there are two entries, for local 3 of the code: what lies in it, or room, and what frees it. The last local stands first.
--- `!` is the first argument of every step and says nothing; where `tt` follows, the step changes ghost state, which may be done there. While a local is lent, the lender's part is what `lent` leaves and `given-back` takes.
+-- `!` is the first argument of every step and says nothing; where `tt` stands right behind it, the step changes ghost state, which may be done there. While a local is lent, the lender's part is what `lent` leaves and `given-back` takes.
 use mathlib.Core.Path.{subst, sym}
 use mathlib.Core.Option.{some as some-of}
 use Prim.Native.Nat.{_+_}

@@ -1,11 +1,10 @@
 -- The proof of `count_outcome`, by hand (`Laws/Walk` says how it reads). The reference is opened, the three totals are copied out, `counted_totals` is called on them, what it answers is stored where the tally was, and the reference is closed.
-use Prim.Native.Nat.{_<_, _^_}
 use Rattle.terms.specs.Tally.{counted}
 use Rattle.terms.specs.Types.{Outcome, Tally}
 use Rattle.terms.proofs.Laws.Logic.{_≡_, refl, ℕ, List, [], _∷_, URA, named, w32, Val, vint, vptr, vunit, SProp, emp, ent, id⊢, sep, GName, Lft, Share, flft, ftrue, Model, Heap, Atoms, sem, GhostRules, Running, givenOf, tables}
 use Rattle.terms.proofs.Laws.Logic.{owns, u32, unit, yes, Is, owns-make, MutRef, RefT, mut-tells, ptr-vals, plain, Clauses, onEntry, tripleOf, Contract, Triple, cited, Stays, ends-at, goes-none, goes-ref, says, stay-none, stay-ref, walkOf}
 use Rattle.terms.proofs.Laws.Logic.{Given, ‵, raw, _⊛_, _$_, _∵_, !, qed, by, move, keep, drop, use0, split, join, fsplit, fjoin, suffices, frame, done, sub, whole, look, init, store-raw, stop, hop, from, and-then, no-more, unit-lit, of-opd, assigns, land, returns, enter, alloc1, alloc0, params1, pass1, pass0, free0, nothing, calls-at}
-use Rattle.terms.proofs.Laws.Tally.{outcomes, tallies, totals-fit}
+use Rattle.terms.proofs.Laws.Tally.{TotalsFit, outcomes, tallies, totals-fit}
 use Rattle.terms.proofs.Laws.Walk.{Reference, Run, behind, closed, copied, frames, freed, had, let-go, local, meets, numbers, opened, returned, units}
 use Rattle.terms.proofs.outcome.Outcome as outcome
 use Rattle.terms.proofs.tally.Tally as tally
@@ -63,7 +62,7 @@ module _ {M : Type 1} (𝓤 : URA M) (H : Heap 𝓤) (𝓜 : Model 𝓤 H) (𝓖
     call = ((tt, tt, tt, call-args, call-vals), tt)
 
     -- it may be made, since each total is a number of 32 bits
-    may-call : (t .given < 2 ^ 32) × (t .aborts < 2 ^ 32) × (t .waits < 2 ^ 32) → ent 𝓤 (emp 𝓤) (CountedTotals .pre call)
+    may-call : TotalsFit t → ent 𝓤 (emp 𝓤) (CountedTotals .pre call)
     may-call fits =
         let total = numbers w32 .makes 𝓤 H A W in
         qed W [] ∵ use0 W (‵ (owns (u32 ∷ u32 ∷ u32 ∷ outcome.the-row ∷ []) call-args call-vals))
