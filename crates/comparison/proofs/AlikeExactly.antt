@@ -3,11 +3,10 @@ use mathlib.Core.Path.{_≡_, refl, sym, _∙_}
 use mathlib.Core.Bool.{Bool, true, false, cond, _&&_}
 use Prim.Native.Nat.{ℕ, _+_}
 use native.Mathlib.Omega.{arith}
-use Rattle.terms.proofs.Laws.Tests.{both-left, both-right}
-use Rattle.machine.proofs.Laws.Lists.{all-upTo}
+use Rattle.terms.proofs.Laws.Tests.{and-left, and-right}
+use Rattle.terms.proofs.Laws.Lists.{all-below, all-range}
 use Rattle.comparison.specs.Types.{Alike, NotAlike}
 use Rattle.comparison.specs.Alike.{AlikeExactly, Equals, answersOf, likeness, likenessOf, sameAnswers, sameLines, sameSizes}
-use Rattle.machine.proofs.Laws.Lists.{all-below}
 use Rattle.comparison.proofs.Laws.Alike.{equal-lines, equal-sizes, same-lines, same-sizes}
 
 -- a choice that is Alike was made by a test that passed
@@ -27,10 +26,10 @@ alike-exactly first second s t n m read other-read = (equals, alike, λ differ. 
     equals : likeness first second ≡ Alike → Equals first second s t
     equals e =
         let both = alike-test (sameSizes s t && sameAnswers (s .thieves) first second) (sym by-tests ∙ e) in
-        let all-same = both-right (sameSizes s t) (sameAnswers (s .thieves) first second) both in
+        let all-same = and-right (sameSizes s t) (sameAnswers (s .thieves) first second) both in
         record {
-          sizes = same-sizes s t (both-left (sameSizes s t) (sameAnswers (s .thieves) first second) both);
-          answers = λ party h. same-lines (answersOf party first) (answersOf party second) (all-upTo same-for (s .thieves + 1) party all-same h);
+          sizes = same-sizes s t (and-left (sameSizes s t) (sameAnswers (s .thieves) first second) both);
+          answers = λ party h. same-lines (answersOf party first) (answersOf party second) (all-range same-for (s .thieves + 1) party all-same h);
         }
 
     alike : Equals first second s t → likeness first second ≡ Alike

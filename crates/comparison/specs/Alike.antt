@@ -4,7 +4,7 @@ use mathlib.Core.Bool.{Bool, true, false, cond, _&&_}
 use mathlib.Core.List.{List, [], _∷_}
 use Prim.Native.Nat.{ℕ, _+_, _<_}
 use lib.Dec.{eqb}
-use Rattle.machine.specs.Lists.{all, upTo}
+use Rattle.terms.specs.Lists.{all, range}
 use Rattle.terms.specs.Outcome.{isAnswer}
 use Rattle.comparison.specs.Types.{Accepted, Alike, BeginPut, BeginSteal, BeginTake, ClientStore, Drain, Entry, FirstRefused, Likeness, NotAlike, Outcome, Reading, SecondRefused, Sizes, ThiefStep, WorkerStep}
 use Rattle.schedule.specs.declared.reader.Reading.the-variants as reading
@@ -55,7 +55,7 @@ sameSizes s t =
 
 -- no party's answers differ between two files
 abbrev pub sameAnswers : ℕ → List ℕ → List ℕ → Bool
-sameAnswers thieves first second = all (λ party. sameLines (answersOf party first) (answersOf party second)) (upTo (thieves + 1))
+sameAnswers thieves first second = all (λ party. sameLines (answersOf party first) (answersOf party second)) (range (thieves + 1))
 
 abbrev pub likenessOf : List ℕ → List ℕ → Reading → Reading → Likeness
 likenessOf first second (reading.Refused r) other = FirstRefused r

@@ -1,11 +1,11 @@
 -- How two runs are compared, party by party and entry by entry, in the bytes of files and traces. Nothing here is of the paper: `Alike` says what is compared, and here stands what the functions promise each other
--- that compare it. `proofs/Laws/Alike.antt` has that both come to the same.
+-- that compare it. `proofs/Laws/Alike.antt` has that both are equal.
 use mathlib.Core.Bool.{Bool, cond, _&&_}
 use mathlib.Core.List.{List, [], _∷_}
 use Prim.Native.Nat.{ℕ, zero, suc, _+_, _-_}
 use lib.Dec.{eqb, leb, ltb}
 use lib.ListN.{getD}
-use Rattle.machine.specs.Lists.{all, gather, upFrom, upTo}
+use Rattle.terms.specs.Lists.{all, concatMap, rangeFrom, range}
 use Rattle.comparison.specs.Alike.{sameLines}
 use Rattle.schedule.specs.Format.{kindsIn, operandsIn}
 use Rattle.schedule.specs.Trace.{Line, lineIn}
@@ -27,7 +27,7 @@ firstFrom test at (suc more) = cond (test at) at (firstFrom test (suc at) more)
 -- the party's answers from a place on
 abbrev pub linesFrom : ℕ → ℕ → List ℕ → List ℕ → ℕ → List Line
 linesFrom party entries file trace at =
-    gather (λ i. cond (answered party entries file trace i) (lineIn entries trace i ∷ []) []) (upFrom at (entries - at))
+    concatMap (λ i. cond (answered party entries file trace i) (lineIn entries trace i ∷ []) []) (rangeFrom at (entries - at))
 
 -- a party gets the same answers in two runs
 abbrev pub sameFor : ℕ → List ℕ → List ℕ → ℕ → List ℕ → List ℕ → ℕ → Bool
@@ -36,4 +36,4 @@ sameFor entries file trace others other other-trace party =
 
 -- the worker and each thief do
 abbrev pub sameForAll : ℕ → ℕ → List ℕ → List ℕ → ℕ → List ℕ → List ℕ → Bool
-sameForAll thieves entries file trace others other other-trace = all (sameFor entries file trace others other other-trace) (upTo (thieves + 1))
+sameForAll thieves entries file trace others other other-trace = all (sameFor entries file trace others other other-trace) (range (thieves + 1))

@@ -16,7 +16,7 @@ use schedule::run;
 use terms::Refusal;
 use terms::Sizes;
 
-// What comparing two files comes to.
+// The answer of comparing two files.
 pub enum Likeness {
     // Equal sizes, and equal answers for every party.
     Alike,

@@ -1,4 +1,4 @@
--- What a door answers, and what lent memory holds afterwards. Numbers and places are those of "The numbers, by who can cause them" in the scope paper, 01.
+-- What an exported function answers, and what lent memory holds afterwards. Numbers and places are those of "The numbers, by who can cause them" in the scope paper, 01.
 use mathlib.Core.List.{List, [], _∷_}
 use Prim.Native.Nat.{ℕ, _+_, _*_, _%_}
 use Rattle.terms.specs.Refusal.{numberOf, placeOf}

@@ -1,4 +1,4 @@
--- What the promises of the doors say: the answers of the libraries below, as numbers. 01 has no doors; its numbers and places are what the answers are made of.
+-- What the promises of the exported functions say: the answers of the libraries below, as numbers. 01 has no such functions; its numbers and places are what the answers are made of.
 --
 -- answers and lent memory               Answer
 pub mod Types

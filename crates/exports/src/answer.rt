@@ -6,7 +6,7 @@ use terms::Refusal;
 use terms::Sizes;
 use terms::Tally;
 
-// A refusal as the number that a door answers.
+// A refusal as the number that an exported function answers.
 pub(crate) fn answer_of(refusal: Refusal) -> u64
     ensures { λ r. ⌜ r ≡ refusalAnswer refusal ⌝ }
 {
@@ -14,7 +14,7 @@ pub(crate) fn answer_of(refusal: Refusal) -> u64
     refusal.number() as u64 * 4294967296 + place % 4294967296
 }
 
-// What a comparison found as the number that a door answers.
+// What a comparison found as the number that an exported function answers.
 pub(crate) fn likeness_of(found: Likeness) -> u64
     ensures { λ r. ⌜ r ≡ likenessAnswer found ⌝ }
 {

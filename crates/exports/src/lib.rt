@@ -1,13 +1,13 @@
-// The doors of the rehearsal bench for programs in C and in Rust: a static library of functions with C's names and calls.
+// The rehearsal bench for programs in C and in Rust: a static library of functions with C's names and calls.
 //
-// Each door is a call of one public function of the libraries below, and answers what that function answers, told in numbers: nothing
+// Each is a call of one public function of the libraries below, and answers what that function answers, as numbers: nothing
 // but numbers and slices of numbers crosses. To C, a slice is two arguments, where it starts and how many elements it has, a `size_t`.
-// A door asks nothing of its caller beyond what a slice is: a pointer that is not null, also for no elements, to memory that is there, aligned
+// It asks nothing of its caller beyond what a slice is: a pointer that is not null, also for no elements, to memory that is there, aligned
 // for 32-bit numbers where they are such; nobody changes it meanwhile, and memory that is lent for writing shares none with
 // another slice of the call.
 //
-// But for `rehearsal_needed_margin` every door answers one number of 64 bits. Where a file is refused, its upper half is the number of
-// the refusal and its lower half the place. Otherwise the upper half is 0, and the lower half is what the door tells. What takes
+// But for `rehearsal_needed_margin` each answers one number of 64 bits. Where a file is refused, its upper half is the number of
+// the refusal and its lower half the place. Otherwise the upper half is 0, and the lower half is the answer. What takes
 // more than that is written into memory that the caller lends, and a refusal leaves that memory as it was. Sizes and totals have
 // four bytes each, the least significant first; those for which too few bytes are lent are left out.
 //
@@ -22,12 +22,12 @@
 //     uint32_t rehearsal_needed_margin(uint32_t buffer, uint32_t spacing);
 //
 // - `answer`: a refusal as one number, and numbers put into lent memory;
-// - `doors`: the doors.
+// - `interface`: the exported functions.
 mod answer;
-mod doors;
+mod interface;
 
-pub use doors::rehearsal_alike;
-pub use doors::rehearsal_needed_margin;
-pub use doors::rehearsal_read;
-pub use doors::rehearsal_run;
-pub use doors::rehearsal_write;
+pub use interface::rehearsal_alike;
+pub use interface::rehearsal_needed_margin;
+pub use interface::rehearsal_read;
+pub use interface::rehearsal_run;
+pub use interface::rehearsal_write;

@@ -7,8 +7,8 @@ use native.Mathlib.Nat.{add-sub-cancel-left, div-add-mod, div-div-eq-div-mul, di
 use native.Mathlib.Omega.{arith}
 use lib.Dec.{eqb, leb}
 use borrow.Author.Tests.{eqb-true, leb-false}
-use Rattle.terms.proofs.Laws.Tests.{both-left, both-right, by-test}
-use Rattle.machine.specs.Lists.{gather}
+use Rattle.terms.proofs.Laws.Tests.{and-left, and-right, by-test}
+use Rattle.terms.specs.Lists.{concatMap}
 use Rattle.lines.specs.Text.{DigitsRead, digit, numberIn, shown, units}
 
 numberIn-append : (v : ℕ) (l m : List ℕ) → numberIn v (l ++ m) ≡ numberIn (numberIn v l) m
@@ -45,12 +45,12 @@ module _ (n : ℕ) where
   lastOf unit [] = unit
   lastOf unit (next ∷ us) = lastOf next us
 
-  read-places : (unit : ℕ) (us : List ℕ) → tenths unit us ≡ true → (v : ℕ) → v ≡ n / unit → numberIn v (gather (digit n) us) ≡ n / lastOf unit us
+  read-places : (unit : ℕ) (us : List ℕ) → tenths unit us ≡ true → (v : ℕ) → v ≡ n / unit → numberIn v (concatMap (digit n) us) ≡ n / lastOf unit us
   read-places unit [] p v so-far = so-far
   read-places unit (next ∷ us) p v so-far =
-      let tenth = eqb-true unit (next * 10) (both-left (eqb unit (next * 10)) (tenths next us) p) in
-      numberIn-append v (digit n next) (gather (digit n) us)
-      ∙ read-places next us (both-right (eqb unit (next * 10)) (tenths next us) p) (numberIn v (digit n next)) (read-place next v (so-far ∙ ap (λ u. n / u) tenth))
+      let tenth = eqb-true unit (next * 10) (and-left (eqb unit (next * 10)) (tenths next us) p) in
+      numberIn-append v (digit n next) (concatMap (digit n) us)
+      ∙ read-places next us (and-right (eqb unit (next * 10)) (tenths next us) p) (numberIn v (digit n next)) (read-place next v (so-far ∙ ap (λ u. n / u) tenth))
 
 pub digits-read : DigitsRead
 digits-read n few = read-places n 10000000000 units refl 0 (sym (div-eq-of-lt few)) ∙ div-one n

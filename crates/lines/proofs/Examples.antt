@@ -1,7 +1,7 @@
 -- Every row of the table of lines holds, by one computation.
 use mathlib.Core.Path.{_≡_, refl}
 use mathlib.Core.Bool.{true}
-use Rattle.machine.specs.Lists.{all}
+use Rattle.terms.specs.Lists.{all}
 use Rattle.machine.specs.InRange.{inRange}
 use Rattle.lines.specs.Examples.{holds, table}
 

@@ -1,7 +1,7 @@
 -- How the lines of the entries are read off a trace. Nothing here is of the paper: it is what the functions that put these lines promise each other.
 use mathlib.Core.List.{List, [], _∷_}
 use Prim.Native.Nat.{ℕ}
-use Rattle.machine.specs.Lists.{gather, upTo}
+use Rattle.terms.specs.Lists.{concatMap, range}
 use Rattle.schedule.specs.Trace.{lineIn}
 use Rattle.lines.specs.Text.{decimal, line}
 
@@ -15,4 +15,4 @@ lineFromTrace entries trace at = threeNumbers at (lineIn entries trace at .numbe
 
 -- the lines of all entries of a trace
 abbrev pub linesFromTrace : ℕ → List ℕ → List ℕ
-linesFromTrace entries trace = gather (lineFromTrace entries trace) (upTo entries)
+linesFromTrace entries trace = concatMap (lineFromTrace entries trace) (range entries)

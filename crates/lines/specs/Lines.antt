@@ -46,7 +46,7 @@ totalsLine t = line (ascii "given" ∷ decimal (t .given) ∷ ascii "aborts" ∷
 abbrev pub refusalLine : Refusal → List ℕ
 refusalLine r = line (ascii "refused" ∷ decimal (refusal.numberOf r) ∷ ascii "place" ∷ decimal (refusal.placeOf r) ∷ [])
 
--- all lines, by what reading the file came to
+-- all lines, by the reader's answer
 abbrev pub linesFor : List ℕ → Reading → List ℕ
 linesFor file (Accepted s entries) = sizesLine s ++ entryLines 0 (outcomesIn file) ++ totalsLine (tallyOf (outcomesIn file))
 linesFor file (reading.Refused r) = refusalLine r

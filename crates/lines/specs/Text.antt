@@ -6,7 +6,7 @@ use Prim.Native.Nat.{ℕ, _+_, _*_, _-_, _/_, _%_, _<_}
 use Prim.Native.Char.{code}
 use Prim.Native.String.{String, [], _∷_}
 use lib.Dec.{eqb, leb}
-use Rattle.machine.specs.Lists.{gather}
+use Rattle.terms.specs.Lists.{concatMap}
 
 -- a text in ASCII, each character by its code
 abbrev pub ascii : String → List ℕ
@@ -34,9 +34,9 @@ digit n unit = cond (shown n unit) ((48 + n / unit % 10) ∷ []) []
 
 -- a number of at most ten digits in base ten
 abbrev pub decimal : ℕ → List ℕ
-decimal n = gather (digit n) units
+decimal n = concatMap (digit n) units
 
--- the number that digits are, behind those that came to a number so far
+-- the number that digits are, behind those that were read as a number so far
 abbrev pub numberIn : ℕ → List ℕ → ℕ
 numberIn so-far [] = so-far
 numberIn so-far (d ∷ ds) = numberIn (10 * so-far + (d - 48)) ds

@@ -1,10 +1,4 @@
-pub mod Lists
-pub mod Sums
-pub mod StoreBuffer
-pub mod PlainQueue
-pub mod Index
-pub mod Words
 pub mod InRange
+pub mod Worker
 pub mod Obey
-pub mod Chain
 pub mod Loads

@@ -1,10 +1,13 @@
--- What is proved of the claim of demand 3: the claim itself, for every list (`Theorem`); that it speaks of the list obeyed entry by entry
--- (`Watched`); that a run with too small a margin violates it (`Rehearsed`); and what holds of every run, whichever margin is set (`AnyMargin`).
+-- That FF-THE satisfies the claim: for every list of entries (`Theorem`); that the claim speaks of the list obeyed entry by entry (`Watched`);
+-- that a run with too small a margin violates it (`Rehearsed`); and what holds of every run, whichever margin is set (`AnyMargin`).
 --
--- Reading order: the invariant; what an entry has to show (`Turn`), and the ways to show it (`Tasks`, `Exclusion`, `Rebuild`); the entries
--- of the worker (`Put`, `Take`, `Worker`), of a thief (`Thief`), and the drain; all of them joined (`Run`).
-pub mod Invariant
+-- Reading order. `Invariant`: what is true after every entry, a sentence a field, in any `Environment`. `Turn`: what an entry has to show, and the
+-- ways to show it: the plain queue's replies (`Tasks`), who holds the lock (`Exclusion`), the invariant rebuilt from what an entry of the worker's
+-- changes (`Rebuild`). The steps, a lemma each: `Put`, `Take`, with the worker's other entries in `Worker`; `Thief`, whose step 4 is the one use
+-- of the margin. `Owed`, `Settle`, `Drain`: memory moves on while no call does. `Run`: an entry joined with the calls of all parties, in any
+-- environment; `Plain`: in that of 01's machine.
 pub mod Tasks
+pub mod Invariant
 pub mod Turn
 pub mod Exclusion
 pub mod Rebuild
@@ -13,9 +16,10 @@ pub mod Take
 pub mod Worker
 pub mod Thief
 pub mod Owed
+pub mod Settle
 pub mod Drain
 pub mod Run
-pub mod Account
+pub mod Plain
 pub mod Theorem
 pub mod Watched
 pub mod Rehearsed

@@ -1,7 +1,7 @@
 -- Every row of the table of rehearsals holds, by one computation.
 use mathlib.Core.Path.{_≡_, refl}
 use mathlib.Core.Bool.{true}
-use Rattle.machine.specs.Lists.{all}
+use Rattle.terms.specs.Lists.{all}
 use Rattle.machine.specs.InRange.{inRange}
 use Rattle.machine.specs.Rehearsals.{everyNumberShown, holds, rehearsals}
 
@@ -9,6 +9,6 @@ pub rehearsals-hold : all holds rehearsals ≡ true
 unfolding inRange
 rehearsals-hold = refl
 
--- and it shows every number that an entry can come to
+-- and it shows every number that an outcome can have
 pub every-number-shown : everyNumberShown ≡ true
 every-number-shown = refl

@@ -1,19 +1,19 @@
 -- The machine: what it is at first, what the parties load from it, what a step may need, and what
 -- an operation hands back. Renders the first paragraph of "The machine" and, of "Demand 3's plain queue", what the fresh machine is.
-use mathlib.Core.Bool.{Bool, true, false, cond}
+use mathlib.Core.Bool.{Bool, cond}
 use Prim.Native.Nat.{ℕ}
 use lib.Dec.{ltb, eqb}
 use lib.ListN.{getD, replicate}
-use Rattle.machine.specs.Types.{Done, Holder, Nobody, TheWorker, TheThief, Index, Machine, Outcome, Wait, Sizes, Thief, ThiefCall, WorkerCall}
-use Rattle.machine.specs.Index.{indexOf, slotOf}
-use Rattle.machine.specs.StoreBuffer.{emptyBuffer, newestInSlot, newestTail}
+use Rattle.stores.specs.Index.{indexOf, slotOf}
+use Rattle.stores.specs.Lock.{isNobody}
+use Rattle.stores.specs.Spacing.{noTake}
+use Rattle.stores.specs.StoreBuffer.{emptyBuffer, newestInSlot, newestTail}
+use Rattle.machine.specs.Types.{Done, Nobody, Index, Load, NoSlot, SlotOf, Machine, Outcome, Wait, Sizes, ThiefCall, WorkerCall}
+use Rattle.machine.specs.Thief.{idleThief}
 
 -- ── At first ────────────────────────────────────────────────────────────────────────────────────────────────────────────────
 
-abbrev pub idleThief : Thief
-idleThief = record { call = ThiefCall.Idle }
-
--- slots of 0, head and tail at start, a free lock, an empty buffer, no call, and no client store counted
+-- slots of 0, head and tail at start, a free lock, an empty buffer, no call, and no take begun
 abbrev pub fresh : Sizes → Machine
 fresh s =
     record {
@@ -23,8 +23,7 @@ fresh s =
       tail = indexOf (s .start);
       lock = record { holder = Nobody };
       buffer = emptyBuffer;
-      since = 0;
-      taken = false;
+      spacing = noTake;
       worker = record { call = WorkerCall.Idle };
       thieves = replicate 8 idleThief;
     }
@@ -47,16 +46,20 @@ memoryLoad m i = getD (m .slots) (slotOf (m .sizes .slots) i) 0
 abbrev pub workerLoad : Machine → Index → ℕ
 workerLoad m i = newestInSlot (m .sizes .slots) (slotOf (m .sizes .slots) i) (memoryLoad m i) (m .buffer)
 
+-- what a step loads: 0 where it loads from no slot
+abbrev pub memoryLoads : Machine → Load → ℕ
+memoryLoads m NoSlot = 0
+memoryLoads m (SlotOf i) = memoryLoad m i
+
+abbrev pub workerLoads : Machine → Load → ℕ
+workerLoads m NoSlot = 0
+workerLoads m (SlotOf i) = workerLoad m i
+
 -- the call of the thief with this number
 abbrev pub thiefCall : Machine → ℕ → ThiefCall
 thiefCall m i = getD (m .thieves) i idleThief .call
 
 -- ── What a step may need ────────────────────────────────────────────────────────────────────────────────────────────────────
-
-abbrev pub isNobody : Holder → Bool
-isNobody Nobody = true
-isNobody TheWorker = false
-isNobody (TheThief i) = false
 
 abbrev pub lockIsFree : Machine → Bool
 lockIsFree m = isNobody (m .lock .holder)

@@ -1,26 +1,13 @@
 -- An entry obeyed, and a list of them. Renders, of "Parts", what an operation does first, of "The numbers" the order in which one entry is
 -- refused, and of "Demand 3's plain queue" how a list is run.
-use mathlib.Core.Bool.{Bool, true, cond, not, _&&_}
+use mathlib.Core.Bool.{Bool, true, cond, _&&_}
 use mathlib.Core.List.{List, [], _∷_}
 use lib.Dec.{ltb}
-use Rattle.machine.specs.Types.{Done, Entry, Drain, ClientStore, BeginPut, BeginTake, WorkerStep, BeginSteal, ThiefStep, Machine, Outcome, Moved, Wait, Sizes}
-use Rattle.machine.specs.StoreBuffer.{dropOldest, oldest, slotsAfter, tailAfter}
-use Rattle.machine.specs.Machine.{done, needing, nothingPending, thiefCall}
-use Rattle.machine.specs.Update.{withMemory}
+use Rattle.machine.specs.Types.{Done, Entry, Drain, ClientStore, BeginPut, BeginTake, WorkerStep, BeginSteal, ThiefStep, Machine, Outcome, Wait, Sizes}
+use Rattle.machine.specs.Machine.{done, thiefCall}
 use Rattle.machine.specs.InRange.{inRange}
-use Rattle.machine.specs.Worker.{beginPut, beginTake, makeClientStore, stepOfWorker}
-use Rattle.machine.specs.Thief.{beginSteal, stepOfThief}
-
--- the oldest pending store reaches its place in memory, if it has one; 7 WAIT where nothing is pending
-abbrev pub drain : Machine → Done
-drain m =
-    needing (not (nothingPending m)) m
-    (done Moved
-    (withMemory
-    (slotsAfter (m .sizes .slots) (m .slots) (oldest (m .buffer) .kind))
-    (tailAfter (m .tail) (oldest (m .buffer) .kind))
-    (dropOldest (m .buffer))
-    m))
+use Rattle.machine.specs.Perform.{stepOfThief, stepOfWorker}
+use Rattle.machine.specs.Entries.{beginPut, beginSteal, beginTake, drain, makeClientStore}
 
 -- each of the seven kinds, on a machine in range and with a thief that is there
 abbrev pub obeyInRange : Machine → Entry → Done

@@ -10,19 +10,20 @@ use lib.IntN.{ℤ, pos, negsuc}
 use lib.ListN.{getD, length, replicate}
 use Rattle.terms.specs.Sizes.{neededMargin}
 use Rattle.terms.specs.Outcome.{numberOf, valueOf}
+use Rattle.terms.specs.Lists.{all, concatMap, occurrences, rangeFrom}
+use Rattle.stores.specs.Index.{eqZ}
+use Rattle.stores.specs.StoreBuffer.{clientStore, emptyBuffer, slotStore}
+use Rattle.claim.specs.Watch.{Watch, watchAfter, watchFresh}
 use Rattle.machine.specs.Types.{Entry, Drain, ClientStore, BeginPut, BeginTake, WorkerStep, BeginSteal, ThiefStep, Machine, Outcome, Moved, Place, Early, Wait, Stored, Task, Empty, Abort, Full, End, Sizes, PutStoreSlot, PutStoreTail, StealLoadTail, TakeLoadHead, TakeLoadSlot}
-use Rattle.machine.specs.Lists.{all, gather, occurrences, upFrom}
-use Rattle.machine.specs.Index.{eqZ}
-use Rattle.machine.specs.StoreBuffer.{clientStore, emptyBuffer, slotStore}
 use Rattle.machine.specs.Machine.{fresh}
 use Rattle.machine.specs.Update.{pushed, withBuffer, withHead, withMemory, withSpacing, withThief, withWorker}
 use Rattle.machine.specs.InRange.{inRange}
 use Rattle.machine.specs.Obey.{obey}
-use Rattle.machine.specs.Effect.{Watch, watchAfter, watchFresh}
+use Rattle.machine.specs.Linearizable.{ffThe}
 
 -- ── Rows ────────────────────────────────────────────────────────────────────────────────────────────────────────────────────
 
--- A line of a story: an entry with what it comes to, or a look at memory's head, at memory's tail, at what one of memory's slots holds, at
+-- A line of a story: an entry with its outcome, or a look at memory's head, at memory's tail, at what one of memory's slots holds, at
 -- the spacing count or at how many tasks stand.
 pub data Line : Type 0 where
   does : Entry → Outcome → Line
@@ -52,18 +53,18 @@ oneOfEach = Drain ∷ ClientStore ∷ BeginPut 1 ∷ BeginTake ∷ WorkerStep �
 abbrev pub allWait : Machine → Bool
 allWait m = not (inRange m) && all (λ e. sameOutcome (obey m e .outcome) Wait) oneOfEach
 
-abbrev pub comesTrue : Watch → List Line → Bool
+abbrev pub comesTrue : Watch Machine → List Line → Bool
 comesTrue w [] = true
-comesTrue w (does e o ∷ l) = sameOutcome (obey (w .machine) e .outcome) o && comesTrue (watchAfter w e) l
+comesTrue w (does e o ∷ l) = sameOutcome (obey (w .machine) e .outcome) o && comesTrue (watchAfter ffThe w e) l
 comesTrue w (headIs z ∷ l) = eqZ (w .machine .head .at) z && comesTrue w l
 comesTrue w (tailIs z ∷ l) = eqZ (w .machine .tail .at) z && comesTrue w l
 comesTrue w (slotIs k x ∷ l) = eqb (getD (w .machine .slots) k 0) x && comesTrue w l
-comesTrue w (countIs n ∷ l) = eqb (w .machine .since) n && comesTrue w l
+comesTrue w (countIs n ∷ l) = eqb (w .machine .spacing .count) n && comesTrue w l
 comesTrue w (tasksStand n ∷ l) = eqb (length (w .queue .tasks)) n && comesTrue w l
 
 abbrev pub holds : Row → Bool
 holds (margin b s n) = eqb (neededMargin b s) n
-holds (story s l) = comesTrue (watchFresh s) l
+holds (story s l) = comesTrue (watchFresh ffThe s) l
 holds (brink m e o) =
     inRange m && sameOutcome (obey m e .outcome) o && allWait (obey m e .machine)
 holds (beyond m) = allWait m
@@ -78,7 +79,7 @@ entryIn (countIs n) = []
 entryIn (tasksStand n) = []
 
 abbrev pub entriesIn : List Line → List Entry
-entriesIn l = gather entryIn l
+entriesIn l = concatMap entryIn l
 
 -- the number of the outcome in a line
 abbrev pub numberIn : Line → List ℕ
@@ -131,7 +132,7 @@ steals o = does (BeginSteal 0) Moved ∷ thiefMoves 5 ++ thiefGets o
 
 -- puts of 1 to n, each fully drained
 abbrev pub filled : ℕ → List Line
-filled n = gather (λ x. puts x ++ drains 2) (upFrom 1 n)
+filled n = concatMap (λ x. puts x ++ drains 2) (rangeFrom 1 n)
 
 -- ── The table ───────────────────────────────────────────────────────────────────────────────────────────────────────────────
 
@@ -208,7 +209,7 @@ slotBeforeTail = puts 1 ++ drains 1 ++ tailIs (pos 0) ∷ drains 1 ++ tailIs (po
 
 -- "Broken thread", the margin rounded down: 17 takes are pending at once, with a client store between each two, and 16 is one short
 abbrev pub seventeenTakesThenSteal : Outcome → List Line
-seventeenTakesThenSteal o = filled 17 ++ takes 17 ++ gather (λ k. clientStores 1 ++ takes (17 - k)) (upFrom 1 16) ++ steals o
+seventeenTakesThenSteal o = filled 17 ++ takes 17 ++ concatMap (λ k. clientStores 1 ++ takes (17 - k)) (rangeFrom 1 16) ++ steals o
 
 -- "Broken thread", FULL one task too late: a thief has stolen task 1 and not yet loaded its slot, which one more put would overwrite
 abbrev pub slotAboutToBeLoaded : List Line
@@ -336,7 +337,7 @@ withTail z m = withMemory (m .slots) (record { at = z }) emptyBuffer m
 
 abbrev pub brinks : List Row
 brinks =
-    brink (withSpacing 4096 true (fresh m3Sizes)) ClientStore Moved
+    brink (withSpacing (record { count = 4096; begun = true }) (fresh m3Sizes)) ClientStore Moved
     ∷ brink (withTail (pos 2147483648) (withWorker PutStoreTail (fresh m3Sizes))) WorkerStep Stored
     ∷ brink (withTail (negsuc 0) (withWorker (PutStoreSlot 5) (fresh m3Sizes))) WorkerStep Moved
     ∷ []
@@ -347,7 +348,7 @@ beyonds =
     beyond (fresh (sizes 1 2 0 2 1 0))
     ∷ beyond (fresh (sizes 4 2 0 65 1 0))
     ∷ beyond (withBuffer (record { stores = replicate 64 clientStore; count = 3 }) (fresh m3Sizes))
-    ∷ beyond (withSpacing 4097 true (fresh m3Sizes))
+    ∷ beyond (withSpacing (record { count = 4097; begun = true }) (fresh m3Sizes))
     ∷ beyond (withHead (record { at = negsuc 1 }) (fresh m3Sizes))
     ∷ beyond (withTail (pos 2147483649) (fresh m3Sizes))
     ∷ beyond (pushed (slotStore (record { at = negsuc 0 }) 1) (fresh m3Sizes))
@@ -364,11 +365,11 @@ rehearsals = m1 ++ stories ++ brinks ++ beyonds
 -- the numbers of the outcomes that a row shows
 abbrev pub numbersIn : Row → List ℕ
 numbersIn (margin b s n) = []
-numbersIn (story s l) = gather numberIn l
+numbersIn (story s l) = concatMap numberIn l
 numbersIn (brink m e o) = numberOf o ∷ []
 numbersIn (beyond m) = []
 
--- each number that an entry can come to is in the table
+-- each number that an outcome can have is in the table
 abbrev pub everyNumberShown : Bool
 everyNumberShown =
-    all (λ n. ltb 0 (occurrences n (gather numbersIn rehearsals))) (0 ∷ 5 ∷ 6 ∷ 7 ∷ 16 ∷ 17 ∷ 18 ∷ 19 ∷ 20 ∷ 21 ∷ [])
+    all (λ n. ltb 0 (occurrences n (concatMap numbersIn rehearsals))) (0 ∷ 5 ∷ 6 ∷ 7 ∷ 16 ∷ 17 ∷ 18 ∷ 19 ∷ 20 ∷ 21 ∷ [])

@@ -1,33 +1,32 @@
 -- A machine with some of its parts replaced and every other as it was. There is nothing here to believe but that.
-use mathlib.Core.Bool.{Bool}
 use mathlib.Core.List.{List}
 use Prim.Native.Nat.{ℕ}
 use lib.ListN.{set}
-use Rattle.machine.specs.Types.{Holder, Index, Machine, Store, StoreBuffer, ThiefCall, WorkerCall}
-use Rattle.machine.specs.StoreBuffer.{push}
+use Rattle.stores.specs.StoreBuffer.{push}
+use Rattle.machine.specs.Types.{Holder, Index, Machine, Spacing, Store, StoreBuffer, ThiefCall, WorkerCall}
 
 abbrev pub withHead : Index → Machine → Machine
-withHead h m = record { sizes = m .sizes; slots = m .slots; head = h; tail = m .tail; lock = m .lock; buffer = m .buffer; since = m .since; taken = m .taken; worker = m .worker; thieves = m .thieves }
+withHead h m = record { sizes = m .sizes; slots = m .slots; head = h; tail = m .tail; lock = m .lock; buffer = m .buffer; spacing = m .spacing; worker = m .worker; thieves = m .thieves }
 
 abbrev pub withLock : Holder → Machine → Machine
-withLock l m = record { sizes = m .sizes; slots = m .slots; head = m .head; tail = m .tail; lock = record { holder = l }; buffer = m .buffer; since = m .since; taken = m .taken; worker = m .worker; thieves = m .thieves }
+withLock l m = record { sizes = m .sizes; slots = m .slots; head = m .head; tail = m .tail; lock = record { holder = l }; buffer = m .buffer; spacing = m .spacing; worker = m .worker; thieves = m .thieves }
 
 abbrev pub withBuffer : StoreBuffer → Machine → Machine
-withBuffer b m = record { sizes = m .sizes; slots = m .slots; head = m .head; tail = m .tail; lock = m .lock; buffer = b; since = m .since; taken = m .taken; worker = m .worker; thieves = m .thieves }
+withBuffer b m = record { sizes = m .sizes; slots = m .slots; head = m .head; tail = m .tail; lock = m .lock; buffer = b; spacing = m .spacing; worker = m .worker; thieves = m .thieves }
 
 -- slots, tail and pending stores at once, as a drain changes them
 abbrev pub withMemory : List ℕ → Index → StoreBuffer → Machine → Machine
-withMemory l t b m = record { sizes = m .sizes; slots = l; head = m .head; tail = t; lock = m .lock; buffer = b; since = m .since; taken = m .taken; worker = m .worker; thieves = m .thieves }
+withMemory l t b m = record { sizes = m .sizes; slots = l; head = m .head; tail = t; lock = m .lock; buffer = b; spacing = m .spacing; worker = m .worker; thieves = m .thieves }
 
--- the two parts that the spacing rule looks at
-abbrev pub withSpacing : ℕ → Bool → Machine → Machine
-withSpacing n b m = record { sizes = m .sizes; slots = m .slots; head = m .head; tail = m .tail; lock = m .lock; buffer = m .buffer; since = n; taken = b; worker = m .worker; thieves = m .thieves }
+-- what the spacing rule goes by
+abbrev pub withSpacing : Spacing → Machine → Machine
+withSpacing p m = record { sizes = m .sizes; slots = m .slots; head = m .head; tail = m .tail; lock = m .lock; buffer = m .buffer; spacing = p; worker = m .worker; thieves = m .thieves }
 
 abbrev pub withWorker : WorkerCall → Machine → Machine
-withWorker c m = record { sizes = m .sizes; slots = m .slots; head = m .head; tail = m .tail; lock = m .lock; buffer = m .buffer; since = m .since; taken = m .taken; worker = record { call = c }; thieves = m .thieves }
+withWorker c m = record { sizes = m .sizes; slots = m .slots; head = m .head; tail = m .tail; lock = m .lock; buffer = m .buffer; spacing = m .spacing; worker = record { call = c }; thieves = m .thieves }
 
 abbrev pub withThief : ℕ → ThiefCall → Machine → Machine
-withThief i c m = record { sizes = m .sizes; slots = m .slots; head = m .head; tail = m .tail; lock = m .lock; buffer = m .buffer; since = m .since; taken = m .taken; worker = m .worker; thieves = set (m .thieves) i (record { call = c }) }
+withThief i c m = record { sizes = m .sizes; slots = m .slots; head = m .head; tail = m .tail; lock = m .lock; buffer = m .buffer; spacing = m .spacing; worker = m .worker; thieves = set (m .thieves) i (record { call = c }) }
 
 -- a store is pending
 abbrev pub pushed : Store → Machine → Machine

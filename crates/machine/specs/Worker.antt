@@ -1,91 +1,31 @@
--- The worker's entries: client stores, beginnings, and each step of a put and of a take. Renders, of "The machine", "Put", "Take", the
--- paragraph on what locking, unlocking and a new pending store need, and the spacing rule; and 5, 6 and 7 of "The numbers" for them.
+-- Each step of a put and of a take: what it does, from what the worker sees. Renders, of "The machine", "Put", "Take", and the
+-- paragraph on what locking, unlocking and a new pending store need; and 5 and 7 of "The numbers" for them.
+use mathlib.Core.Path.{_≡_}
 use mathlib.Core.Bool.{Bool, true, false, cond, _&&_}
-use Prim.Native.Nat.{ℕ, _+_}
-use lib.Dec.{ltb}
+use Prim.Native.Nat.{ℕ, _-_, _≤_}
 use lib.IntN.{pos, _+ℤ_, _-ℤ_}
 use lib.Signed.{leZ}
-use Rattle.machine.specs.Types.{Done, Index, Machine, Nobody, TheWorker, Outcome, Moved, Place, Early, Stored, Task, Empty, Full, End, WorkerCall, PutLoadHead, PutStoreSlot, PutStoreTail, TakeStoreTail, TakeLoadHead, TakeLoadSlot, TakeLock, TakeReloadHead, TakeRestoreTail, TakeUnlockEmpty, TakeUnlockTask, TakeLoadLastSlot}
-use Rattle.machine.specs.Index.{eqZ, next, previous}
-use Rattle.machine.specs.StoreBuffer.{clientStore, tailStore, slotStore}
-use Rattle.machine.specs.Machine.{done, hasRoom, lockIsFree, needing, nothingPending, workerLoad, workerTail}
-use Rattle.machine.specs.Update.{pushed, withLock, withSpacing, withWorker}
+use Rattle.stores.specs.Index.{eqZ, indexInRange, next, previous, slotIndexInRange}
+use Rattle.stores.specs.Lock.{isNobody}
+use Rattle.machine.specs.Types.{Index, Load, NoSlot, SlotOf, Nobody, TheWorker, Outcome, Moved, Place, Wait, Stored, Task, Empty, Full, End, Nothing, One, Holder, StoreKind, Tail, Slot, WorkerCall, PutLoadHead, PutStoreSlot, PutStoreTail, TakeStoreTail, TakeLoadHead, TakeLoadSlot, TakeLock, TakeReloadHead, TakeRestoreTail, TakeUnlockEmpty, TakeUnlockTask, TakeLoadLastSlot, WorkerView, WorkerMove}
 
--- ── How a step ends ─────────────────────────────────────────────────────────────────────────────────────────────────────────
+-- ── Calls ───────────────────────────────────────────────────────────────────────────────────────────────────────────────────
 
--- the call goes on: this step is next
-abbrev pub workerGoesOn : WorkerCall → Machine → Done
-workerGoesOn c m = done Moved (withWorker c m)
-
--- the call ends with this answer
-abbrev pub workerAnswers : Outcome → Machine → Done
-workerAnswers o m = done o (withWorker WorkerCall.Idle m)
-
--- ── Put ─────────────────────────────────────────────────────────────────────────────────────────────────────────────────────
-
--- the worker's tail has its greatest value
-abbrev pub atEnd : Machine → Bool
-atEnd m = eqZ (workerTail m .at) (pos 2147483647)
-
--- tail − head ≥ slots − 1
-abbrev pub isFull : Machine → Bool
-isFull m = leZ (pos (m .sizes .slots) -ℤ pos 1) (workerTail m .at -ℤ m .head .at)
-
--- step 1: look at head, and end there if the tail or the slots leave no room
-abbrev pub putLoadHead : ℕ → Machine → Done
-putLoadHead x m = cond (atEnd m) (workerAnswers End m) (cond (isFull m) (workerAnswers Full m) (workerGoesOn (PutStoreSlot x) m))
-
--- step 2: store the number in the slot that the tail points to
-abbrev pub putStoreSlot : ℕ → Machine → Done
-putStoreSlot x m = needing (hasRoom m) m (workerGoesOn PutStoreTail (pushed (slotStore (workerTail m) x) m))
-
--- step 3: store the tail, one higher, and answer
-abbrev pub putStoreTail : Machine → Done
-putStoreTail m = needing (hasRoom m) m (workerAnswers Stored (pushed (tailStore (next (workerTail m))) m))
-
--- ── Take ────────────────────────────────────────────────────────────────────────────────────────────────────────────────────
-
--- step 1: store the tail, one lower; t is that index from here on
-abbrev pub takeStoreTail : Machine → Done
-takeStoreTail m = needing (hasRoom m) m (workerGoesOn (TakeLoadHead (previous (workerTail m))) (pushed (tailStore (previous (workerTail m))) m))
-
--- t ≥ head
-abbrev pub atOrAboveHead : Index → Machine → Bool
-atOrAboveHead t m = leZ (m .head .at) (t .at)
-
--- step 2: look at head; if it is not above t the slot is next, else the lock
-abbrev pub takeLoadHead : Index → Machine → Done
-takeLoadHead t m = cond (atOrAboveHead t m) (workerGoesOn (TakeLoadSlot t) m) (workerGoesOn (TakeLock t) m)
-
--- step 3 without the lock, and step 6 after it: load from the slot of t and answer
-abbrev pub takeLoadSlot : Index → Machine → Done
-takeLoadSlot t m = workerAnswers (Task (workerLoad m t)) m
-
--- step 3 where head is above t: take the lock, with nothing pending
-abbrev pub takeLock : Index → Machine → Done
-takeLock t m = needing (lockIsFree m && nothingPending m) m (workerGoesOn (TakeReloadHead t) (withLock TheWorker m))
-
--- head ≥ t + 1
-abbrev pub headIsPast : Index → Machine → Bool
-headIsPast t m = leZ (t .at +ℤ pos 1) (m .head .at)
-
--- step 4: look at head again; if it is still above t the tail is put back next, else the lock is freed
-abbrev pub takeReloadHead : Index → Machine → Done
-takeReloadHead t m = cond (headIsPast t m) (workerGoesOn (TakeRestoreTail t) m) (workerGoesOn (TakeUnlockTask t) m)
-
--- step 5 where head is above t: put the tail back
-abbrev pub takeRestoreTail : Index → Machine → Done
-takeRestoreTail t m = needing (hasRoom m) m (workerGoesOn TakeUnlockEmpty (pushed (tailStore (next t)) m))
-
--- step 6 where head is above t: free the lock and answer
-abbrev pub takeUnlockEmpty : Machine → Done
-takeUnlockEmpty m = needing (nothingPending m) m (workerAnswers Empty (withLock Nobody m))
-
--- step 5 where head is not above t: free the lock
-abbrev pub takeUnlockTask : Index → Machine → Done
-takeUnlockTask t m = needing (nothingPending m) m (workerGoesOn (TakeLoadLastSlot t) (withLock Nobody m))
-
--- ── Entries ─────────────────────────────────────────────────────────────────────────────────────────────────────────────────
+-- an index that a call holds only to load its slot is a slot's
+abbrev pub workerInRange : WorkerCall → Bool
+workerInRange WorkerCall.Idle = true
+workerInRange (PutLoadHead x) = true
+workerInRange (PutStoreSlot x) = true
+workerInRange PutStoreTail = true
+workerInRange TakeStoreTail = true
+workerInRange (TakeLoadHead t) = indexInRange t
+workerInRange (TakeLoadSlot t) = slotIndexInRange t
+workerInRange (TakeLock t) = indexInRange t
+workerInRange (TakeReloadHead t) = indexInRange t
+workerInRange (TakeRestoreTail t) = indexInRange t
+workerInRange TakeUnlockEmpty = true
+workerInRange (TakeUnlockTask t) = slotIndexInRange t
+workerInRange (TakeLoadLastSlot t) = slotIndexInRange t
 
 -- whether the worker's call runs
 abbrev pub workerRuns : WorkerCall → Bool
@@ -103,40 +43,131 @@ workerRuns TakeUnlockEmpty = true
 workerRuns (TakeUnlockTask t) = true
 workerRuns (TakeLoadLastSlot t) = true
 
--- 5 PLACE for a beginning or a client store while the worker's call runs
-abbrev pub unlessWorkerRuns : Machine → Done → Done
-unlessWorkerRuns m d = cond (workerRuns (m .worker .call)) (done Place m) d
+-- from which slot the next step loads
+abbrev pub loads : WorkerCall → Load
+loads WorkerCall.Idle = NoSlot
+loads (PutLoadHead x) = NoSlot
+loads (PutStoreSlot x) = NoSlot
+loads PutStoreTail = NoSlot
+loads TakeStoreTail = NoSlot
+loads (TakeLoadHead t) = NoSlot
+loads (TakeLoadSlot t) = SlotOf t
+loads (TakeLock t) = NoSlot
+loads (TakeReloadHead t) = NoSlot
+loads (TakeRestoreTail t) = NoSlot
+loads TakeUnlockEmpty = NoSlot
+loads (TakeUnlockTask t) = NoSlot
+loads (TakeLoadLastSlot t) = SlotOf t
 
--- the spacing count after one more client store, which counts only once a take has begun
-abbrev pub countedStore : Machine → Machine
-countedStore m = withSpacing (cond (m .taken) (m .since + 1) 0) (m .taken) m
+-- what the worker sees is in range
+pub record WorkerViewInRange (v : WorkerView) : Type 0 where
+  pub slots : 1 ≤ v .slots
+  pub tail : indexInRange (v .tail) ≡ true
+  pub head : indexInRange (v .head) ≡ true
+  pub call : workerInRange (v .call) ≡ true
 
-abbrev pub makeClientStore : Machine → Done
-makeClientStore m = unlessWorkerRuns m (needing (hasRoom m) m (done Moved (countedStore (pushed clientStore m))))
+-- ── How a step ends ─────────────────────────────────────────────────────────────────────────────────────────────────────────
 
-abbrev pub beginPut : ℕ → Machine → Done
-beginPut x m = unlessWorkerRuns m (workerGoesOn (PutLoadHead x) m)
+-- the entry is refused: all stays as it is
+abbrev pub stays : Outcome → WorkerView → WorkerMove
+stays o v = record { push = Nothing; lock = v .lock; call = v .call; outcome = o }
 
--- a take has begun before, and the client stores since then are fewer than the spacing
-abbrev pub tooEarly : Machine → Bool
-tooEarly m = m .taken && ltb (m .since) (m .sizes .spacing)
+-- the call goes on: this step is next
+abbrev pub goesOn : WorkerCall → WorkerView → WorkerMove
+goesOn c v = record { push = Nothing; lock = v .lock; call = c; outcome = Moved }
 
--- 6 EARLY against the spacing rule. A take that begins is the one that later client stores are counted from.
-abbrev pub beginTake : Machine → Done
-beginTake m = unlessWorkerRuns m (cond (tooEarly m) (done Early m) (workerGoesOn TakeStoreTail (withSpacing 0 true m)))
+-- the call ends with this answer
+abbrev pub answers : Outcome → WorkerView → WorkerMove
+answers o v = record { push = Nothing; lock = v .lock; call = WorkerCall.Idle; outcome = o }
+
+-- 7 WAIT where the step's need is not met
+abbrev pub needing : Bool → WorkerView → WorkerMove → WorkerMove
+needing met v d = cond met d (stays Wait v)
+
+-- a store, which needs room
+abbrev pub storing : StoreKind → Outcome → WorkerCall → WorkerView → WorkerMove
+storing k o c v = needing (v .room) v (record { push = One k; lock = v .lock; call = c; outcome = o })
+
+-- the lock gets this holder, where what that needs is met
+abbrev pub locking : Bool → Holder → Outcome → WorkerCall → WorkerView → WorkerMove
+locking met h o c v = needing met v (record { push = Nothing; lock = record { holder = h }; call = c; outcome = o })
+
+-- ── Put ─────────────────────────────────────────────────────────────────────────────────────────────────────────────────────
+
+-- the worker's tail has its greatest value
+abbrev pub atEnd : WorkerView → Bool
+atEnd v = eqZ (v .tail .at) (pos 2147483647)
+
+-- tail − head ≥ slots − 1
+abbrev pub isFull : WorkerView → Bool
+isFull v = leZ (pos (v .slots - 1)) (v .tail .at -ℤ v .head .at)
+
+-- step 1: look at head, and end there if the tail or the slots leave no room
+abbrev pub putLoadHead : ℕ → WorkerView → WorkerMove
+putLoadHead x v = cond (atEnd v) (answers End v) (cond (isFull v) (answers Full v) (goesOn (PutStoreSlot x) v))
+
+-- step 2: store the number in the slot that the tail points to
+abbrev pub putStoreSlot : ℕ → WorkerView → WorkerMove
+putStoreSlot x v = storing (Slot x (v .tail)) Moved PutStoreTail v
+
+-- step 3: store the tail, one higher, and answer
+abbrev pub putStoreTail : WorkerView → WorkerMove
+putStoreTail v = storing (Tail (next (v .tail))) Stored WorkerCall.Idle v
+
+-- ── Take ────────────────────────────────────────────────────────────────────────────────────────────────────────────────────
+
+-- step 1: store the tail, one lower; t is that index from here on
+abbrev pub takeStoreTail : WorkerView → WorkerMove
+takeStoreTail v = storing (Tail (previous (v .tail))) Moved (TakeLoadHead (previous (v .tail))) v
+
+-- t ≥ head
+abbrev pub atOrAboveHead : Index → WorkerView → Bool
+atOrAboveHead t v = leZ (v .head .at) (t .at)
+
+-- step 2: look at head; if it is not above t the slot is next, else the lock
+abbrev pub takeLoadHead : Index → WorkerView → WorkerMove
+takeLoadHead t v = cond (atOrAboveHead t v) (goesOn (TakeLoadSlot t) v) (goesOn (TakeLock t) v)
+
+-- step 3 without the lock, and step 6 after it: load from the slot of t and answer
+abbrev pub takeLoadSlot : WorkerView → WorkerMove
+takeLoadSlot v = answers (Task (v .loaded)) v
+
+-- step 3 where head is above t: take the lock, with nothing pending
+abbrev pub takeLock : Index → WorkerView → WorkerMove
+takeLock t v = locking (isNobody (v .lock .holder) && v .drained) TheWorker Moved (TakeReloadHead t) v
+
+-- head ≥ t + 1
+abbrev pub headIsPast : Index → WorkerView → Bool
+headIsPast t v = leZ (t .at +ℤ pos 1) (v .head .at)
+
+-- step 4: look at head again; if it is still above t the tail is put back next, else the lock is freed
+abbrev pub takeReloadHead : Index → WorkerView → WorkerMove
+takeReloadHead t v = cond (headIsPast t v) (goesOn (TakeRestoreTail t) v) (goesOn (TakeUnlockTask t) v)
+
+-- step 5 where head is above t: put the tail back
+abbrev pub takeRestoreTail : Index → WorkerView → WorkerMove
+takeRestoreTail t v = storing (Tail (next t)) Moved TakeUnlockEmpty v
+
+-- step 6 where head is above t: free the lock and answer
+abbrev pub takeUnlockEmpty : WorkerView → WorkerMove
+takeUnlockEmpty v = locking (v .drained) Nobody Empty WorkerCall.Idle v
+
+-- step 5 where head is not above t: free the lock
+abbrev pub takeUnlockTask : Index → WorkerView → WorkerMove
+takeUnlockTask t v = locking (v .drained) Nobody Moved (TakeLoadLastSlot t) v
 
 -- the next step of the worker's call; 5 PLACE where no call runs
-abbrev pub stepOfWorker : Machine → WorkerCall → Done
-stepOfWorker m WorkerCall.Idle = done Place m
-stepOfWorker m (PutLoadHead x) = putLoadHead x m
-stepOfWorker m (PutStoreSlot x) = putStoreSlot x m
-stepOfWorker m PutStoreTail = putStoreTail m
-stepOfWorker m TakeStoreTail = takeStoreTail m
-stepOfWorker m (TakeLoadHead t) = takeLoadHead t m
-stepOfWorker m (TakeLoadSlot t) = takeLoadSlot t m
-stepOfWorker m (TakeLock t) = takeLock t m
-stepOfWorker m (TakeReloadHead t) = takeReloadHead t m
-stepOfWorker m (TakeRestoreTail t) = takeRestoreTail t m
-stepOfWorker m TakeUnlockEmpty = takeUnlockEmpty m
-stepOfWorker m (TakeUnlockTask t) = takeUnlockTask t m
-stepOfWorker m (TakeLoadLastSlot t) = takeLoadSlot t m
+abbrev pub workerMove : WorkerCall → WorkerView → WorkerMove
+workerMove WorkerCall.Idle v = stays Place v
+workerMove (PutLoadHead x) v = putLoadHead x v
+workerMove (PutStoreSlot x) v = putStoreSlot x v
+workerMove PutStoreTail v = putStoreTail v
+workerMove TakeStoreTail v = takeStoreTail v
+workerMove (TakeLoadHead t) v = takeLoadHead t v
+workerMove (TakeLoadSlot t) v = takeLoadSlot v
+workerMove (TakeLock t) v = takeLock t v
+workerMove (TakeReloadHead t) v = takeReloadHead t v
+workerMove (TakeRestoreTail t) v = takeRestoreTail t v
+workerMove TakeUnlockEmpty v = takeUnlockEmpty v
+workerMove (TakeUnlockTask t) v = takeUnlockTask t v
+workerMove (TakeLoadLastSlot t) v = takeLoadSlot v

@@ -1,4 +1,4 @@
-// The lower library of the rehearsal bench: one work-stealing queue, FF-THE of Morrison and Afek, on a machine with late
+// The machine of the rehearsal bench: one work-stealing queue, FF-THE of Morrison and Afek, on a machine with late
 // stores.
 //
 // One worker owns the tail end of a cyclic array of slots: it puts tasks there and takes them back, newest first. Up to
@@ -9,29 +9,27 @@
 // no task is handed out twice.
 //
 // Every step of every party is an entry of a schedule, and an entry is obeyed as a whole. Sizes, entries and outcomes are
-// those of the library `terms`. Reading order:
+// those of the library `terms`; indices, lock and store buffer those of `stores`.
 //
-// - `index`: a position of the queue, a signed number that never wraps;
-// - `store_buffer`: the pending stores;
-// - `worker`, `thief`: the calls in progress, one case for each step that may be next, and each step;
-// - `machine`: memory, lock, store buffer and calls together, whether all of it is in range, and the operations: the fresh
-//   machine, one for each kind of entry (the two that make a step are with the steps), and `obey` for any of them.
-mod boolean;
-mod index;
+// The queue, which knows no machine. A step is a function of what its party sees (the view), and says what the party does
+// (the move): the store that it makes, head, the lock, its call after the step, and the outcome.
+//
+// - `worker`: the worker's calls, one case for each step that may be next, and each step of a put and of a take;
+// - `thief`: a thief's calls, and each step of a steal.
+//
+// The machine, which shows each party its view and performs the move:
+//
+// - `machine`: memory, lock, store buffer and calls together, whether all of it is in range, what the parties load, and
+//   the operations, one for each kind of entry and `obey` for any of them;
+// - `steps`: the two operations that make a step.
 mod machine;
-mod store_buffer;
+mod steps;
 mod thief;
 mod worker;
 
-pub use index::Index;
 pub use machine::Done;
-pub use machine::Holder;
-pub use machine::Lock;
 pub use machine::Machine;
-pub use store_buffer::Store;
-pub use store_buffer::StoreBuffer;
-pub use store_buffer::StoreKind;
+pub use machine::Worker;
 pub use thief::Thief;
 pub use thief::ThiefCall;
-pub use worker::Worker;
 pub use worker::WorkerCall;

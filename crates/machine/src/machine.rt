@@ -1,53 +1,33 @@
-use crate::boolean::both;
-use crate::boolean::chosen;
-use crate::index::Index;
-use crate::index::slot_of;
-use crate::store_buffer::Store;
-use crate::store_buffer::StoreBuffer;
-use crate::store_buffer::StoreKind;
 use crate::thief::Thief;
 use crate::thief::ThiefCall;
 use crate::thief::thieves_in_range;
-use crate::worker::Worker;
 use crate::worker::WorkerCall;
+use stores::Holder;
+use stores::Index;
+use stores::Load;
+use stores::Lock;
+use stores::Spacing;
+use stores::Store;
+use stores::StoreBuffer;
+use stores::StoreKind;
+use stores::slot_of;
 use terms::Entry;
 use terms::Outcome;
-use terms::SizeCheck;
 use terms::Sizes;
 ghost use mathlib.Core.Path.{_≡_};
 ghost use mathlib.Core.Bool.{true};
-ghost use Rattle.terms.specs.Sizes.{sizesInRange};
+ghost use Prim.Native.Nat.{_<_};
 ghost use Rattle.machine.specs.InRange.{inRange};
-ghost use Rattle.machine.specs.Index.{slotIndexInRange};
-ghost use Rattle.machine.specs.Machine.{done, fresh, isNobody, memoryLoad, workerLoad, workerTail};
+ghost use Rattle.machine.specs.Worker.{workerRuns};
+ghost use Rattle.machine.specs.Machine.{done, fresh, memoryLoad, memoryLoads, thiefCall, thiefTail, workerLoad, workerLoads, workerTail};
 ghost use Rattle.machine.specs.Obey.{obey};
+ghost use Rattle.machine.specs.Update.{withThief, withWorker};
 ghost use Rattle.machine.specs.Types.{BeginPut, BeginSteal, BeginTake, ClientStore, Drain, Place, Wait};
 
-// Who holds the lock.
-pub enum Holder {
-    Nobody,
-    TheWorker,
-    // The thief with this number.
-    TheThief(u32),
-}
-
-// The queue's lock.
-pub struct Lock {
-    pub holder: Holder,
-}
-
-impl Lock {
-    // Whether nobody holds it.
-    pub(crate) fn is_free(self) -> bool
-        ensures { λ r. ⌜ r ≡ isNobody (self .holder) ⌝ }
-    {
-        let holder = self.holder;
-        match holder {
-            Holder::Nobody => true,
-            Holder::TheWorker => false,
-            Holder::TheThief(_) => false,
-        }
-    }
+// The worker.
+pub struct Worker {
+    // Its call in progress.
+    pub call: WorkerCall,
 }
 
 // The whole state of a rehearsal. An operation takes it and hands the next one back.
@@ -64,31 +44,18 @@ pub struct Machine {
     pub lock: Lock,
     // The worker's stores that have not reached memory.
     pub buffer: StoreBuffer,
-    // The spacing count: client stores made since the last take began, and 0 before the first.
-    pub since: u32,
-    // Whether a take has begun.
-    pub taken: bool,
+    // What the spacing rule goes by: the client stores made since the last take began.
+    pub spacing: Spacing,
     // The worker, with its call in progress.
     pub worker: Worker,
     // The thieves, of which the first `sizes.thieves` are there, each with its call in progress.
     pub thieves: [Thief; 8],
 }
 
-// What an operation hands back: the machine after it, and what the entry came to.
+// What an operation hands back: the machine after it, and the entry's outcome.
 pub struct Done {
     pub machine: Machine,
     pub outcome: Outcome,
-}
-
-// Whether every size is in its range.
-fn sizes_in_range(sizes: Sizes) -> bool
-    ensures { λ r. ⌜ r ≡ sizesInRange sizes ⌝ }
-{
-    let found = sizes.check();
-    match found {
-        SizeCheck::AllInRange => true,
-        SizeCheck::OutOfRange(_) => false,
-    }
 }
 
 impl Machine {
@@ -99,21 +66,23 @@ impl Machine {
         let sizes = self.sizes;
         let buffer = self.buffer;
         let worker = self.worker;
+        let call = worker.call;
         let head = self.head;
         let tail = self.tail;
-        let mut ok = both(sizes_in_range(sizes), buffer.count <= sizes.buffer as usize);
-        ok = both(ok, self.since <= 4096);
-        ok = both(ok, head.in_range());
-        ok = both(ok, tail.in_range());
-        ok = both(ok, buffer.in_range());
-        ok = both(ok, worker.in_range());
+        let spacing = self.spacing;
         let thieves = self.thieves;
-        both(ok, thieves_in_range(thieves))
+        sizes.in_range()
+            & (buffer.count <= sizes.buffer as usize)
+            & spacing.in_range()
+            & head.in_range()
+            & tail.in_range()
+            & buffer.in_range()
+            & call.in_range()
+            & thieves_in_range(thieves)
     }
 
     // The tail as the worker loads it.
     pub(crate) fn worker_tail(self) -> Index
-        requires { ⌜ inRange self ≡ true ⌝ }
         ensures { λ r. ⌜ r ≡ workerTail self ⌝ }
     {
         let buffer = self.buffer;
@@ -121,9 +90,16 @@ impl Machine {
         buffer.newest_tail(tail)
     }
 
+    // The tail as a thief loads it.
+    pub(crate) fn thief_tail(self) -> Index
+        ensures { λ r. ⌜ r ≡ thiefTail self ⌝ }
+    {
+        self.tail // whatever is pending
+    }
+
     // What memory has in the slot of an index.
     pub(crate) fn memory_load(self, index: Index) -> u32
-        requires { ⌜ (inRange self ≡ true) × (slotIndexInRange index ≡ true) ⌝ }
+        requires { ⌜ inRange self ≡ true ⌝ }
         ensures { λ r. ⌜ r ≡ memoryLoad self index ⌝ }
     {
         let slot = slot_of(index, self.sizes.slots);
@@ -133,7 +109,7 @@ impl Machine {
 
     // What the worker loads from the slot of an index.
     pub(crate) fn worker_load(self, index: Index) -> u32
-        requires { ⌜ (inRange self ≡ true) × (slotIndexInRange index ≡ true) ⌝ }
+        requires { ⌜ inRange self ≡ true ⌝ }
         ensures { λ r. ⌜ r ≡ workerLoad self index ⌝ }
     {
         let value = self.memory_load(index);
@@ -141,6 +117,28 @@ impl Machine {
         let slot = slot_of(index, slots);
         let buffer = self.buffer;
         buffer.newest_in_slot(slots, slot, value)
+    }
+
+    // What a thief's step loads: 0 where it loads from no slot.
+    pub(crate) fn memory_loads(self, load: Load) -> u32
+        requires { ⌜ inRange self ≡ true ⌝ }
+        ensures { λ r. ⌜ r ≡ memoryLoads self load ⌝ }
+    {
+        match load {
+            Load::NoSlot => 0,
+            Load::SlotOf(index) => self.memory_load(index),
+        }
+    }
+
+    // What the worker's step loads: 0 where it loads from no slot.
+    pub(crate) fn worker_loads(self, load: Load) -> u32
+        requires { ⌜ inRange self ≡ true ⌝ }
+        ensures { λ r. ⌜ r ≡ workerLoads self load ⌝ }
+    {
+        match load {
+            Load::NoSlot => 0,
+            Load::SlotOf(index) => self.worker_load(index),
+        }
     }
 
     // Handed back as it is: what the entry needs is not there.
@@ -160,6 +158,51 @@ impl Machine {
         Done {
             machine: self,
             outcome: Outcome::Place,
+        }
+    }
+
+    // Whether a call of the worker's runs.
+    fn worker_runs(self) -> bool
+        ensures { λ r. ⌜ r ≡ workerRuns (self .worker .call) ⌝ }
+    {
+        let worker = self.worker;
+        let call = worker.call;
+        call.runs()
+    }
+
+    // Handed back with this outcome, and the step that is next in the worker's call.
+    fn worker_done(mut self, outcome: Outcome, call: WorkerCall) -> Done
+        ensures { λ r. ⌜ r ≡ done outcome (withWorker call self) ⌝ }
+    {
+        let worker = Worker { call: call };
+        self.worker = worker;
+        Done {
+            machine: self,
+            outcome: outcome,
+        }
+    }
+
+    // The call of the thief with this number.
+    pub(crate) fn thief_call(self, thief: u32) -> ThiefCall
+        requires { ⌜ thief < 8 ⌝ }
+        ensures { λ r. ⌜ r ≡ thiefCall self thief ⌝ }
+    {
+        let thieves = self.thieves;
+        let found = thieves[thief as usize];
+        found.call
+    }
+
+    // Handed back with this outcome, and the step that is next in that thief's call.
+    fn thief_done(mut self, thief: u32, outcome: Outcome, call: ThiefCall) -> Done
+        requires { ⌜ thief < 8 ⌝ }
+        ensures { λ r. ⌜ r ≡ done outcome (withThief thief call self) ⌝ }
+    {
+        let mut thieves = self.thieves;
+        thieves[thief as usize] = Thief { call: call };
+        self.thieves = thieves;
+        Done {
+            machine: self,
+            outcome: outcome,
         }
     }
 
@@ -206,7 +249,8 @@ impl Machine {
         };
         let buffer = self.buffer;
         self.buffer = buffer.push(store);
-        self.since = chosen(self.taken, self.since + 1, 0);
+        let spacing = self.spacing;
+        self.spacing = spacing.counted();
         Done {
             machine: self,
             outcome: Outcome::Moved,
@@ -223,7 +267,7 @@ impl Machine {
         if self.worker_runs() {
             return self.out_of_place();
         }
-        self.worker_comes_to(Outcome::Moved, WorkerCall::PutLoadHead(task))
+        self.worker_done(Outcome::Moved, WorkerCall::PutLoadHead(task))
     }
 
     // The worker begins to take a task, if client stores have spaced it from the take before.
@@ -236,27 +280,27 @@ impl Machine {
         if self.worker_runs() {
             return self.out_of_place();
         }
-        if both(self.taken, self.since < self.sizes.spacing) {
+        let spacing = self.spacing;
+        if spacing.too_early(self.sizes.spacing) {
             return Done {
                 machine: self,
                 outcome: Outcome::Early,
             };
         }
-        self.since = 0;
-        self.taken = true;
-        self.worker_comes_to(Outcome::Moved, WorkerCall::TakeStoreTail)
+        self.spacing = Spacing::take_begins();
+        self.worker_done(Outcome::Moved, WorkerCall::TakeStoreTail)
     }
 
     // The thief with this number, counted from 0, begins to steal.
     pub fn begin_steal(mut self, thief: u32) -> Done
         ensures { λ r. ⌜ r ≡ obey self (BeginSteal thief) ⌝ }
     {
-        if !both(self.in_range(), thief < self.sizes.thieves) {
+        if !(self.in_range() & (thief < self.sizes.thieves)) {
             return self.waits();
         }
         let call = self.thief_call(thief);
         if let ThiefCall::Idle = call {
-            return self.thief_comes_to(thief, Outcome::Moved, ThiefCall::StealLock);
+            return self.thief_done(thief, Outcome::Moved, ThiefCall::StealLock);
         }
         self.out_of_place()
     }
@@ -301,8 +345,10 @@ impl Machine {
                 stores: [client; 64],
                 count: 0,
             },
-            since: 0,
-            taken: false,
+            spacing: Spacing {
+                count: 0,
+                begun: false,
+            },
             worker: Worker {
                 call: WorkerCall::Idle,
             },

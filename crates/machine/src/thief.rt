@@ -1,29 +1,24 @@
-use crate::boolean::both;
-use crate::index::Index;
-use crate::machine::Done;
-use crate::machine::Holder;
-use crate::machine::Lock;
-use crate::machine::Machine;
+use stores::Holder;
+use stores::Index;
+use stores::Load;
+use stores::Lock;
 use terms::Outcome;
 ghost use mathlib.Core.Path.{_≡_};
 ghost use mathlib.Core.Bool.{true};
-ghost use Prim.Native.Nat.{_<_};
-ghost use Rattle.machine.specs.Index.{indexInRange, slotIndexInRange};
-ghost use Rattle.machine.specs.InRange.{inRange, thiefInRange};
-ghost use Rattle.machine.specs.Lists.{all};
-ghost use Rattle.machine.specs.Machine.{done, thiefCall};
-ghost use Rattle.machine.specs.Obey.{obey};
+ghost use Rattle.terms.specs.Lists.{all};
+ghost use Rattle.stores.specs.Index.{indexInRange};
 ghost use Rattle.machine.specs.Thief.{
-  stealLoadHead,
-  stealLoadSlot,
+  ThiefViewInRange,
+  goesOn,
+  heading,
+  loads,
+  stays,
   stealLoadTail,
   stealLock,
-  stealRaiseHead,
-  stealRestoreHead,
   stealUnlock,
+  thiefInRange,
+  thiefMove,
 };
-ghost use Rattle.machine.specs.Types.{ThiefStep};
-ghost use Rattle.machine.specs.Update.{withThief};
 
 // A thief's call in progress: one case for each step that is next, with what that step and later ones use.
 pub enum ThiefCall {
@@ -51,6 +46,30 @@ pub enum ThiefCall {
 pub struct Thief {
     // Its call in progress.
     pub call: ThiefCall,
+}
+
+// What a thief sees at a step.
+pub struct ThiefView {
+    // Its call in progress.
+    pub call: ThiefCall,
+    // Its number.
+    pub me: u32,
+    // Memory's head and tail.
+    pub head: Index,
+    pub tail: Index,
+    pub lock: Lock,
+    // The margin in use.
+    pub margin: u32,
+    // The task in the slot that the step loads from; 0 where it loads from none.
+    pub loaded: u32,
+}
+
+// What a step does: head, lock and call after it, and its outcome.
+pub struct ThiefMove {
+    pub head: Index,
+    pub lock: Lock,
+    pub call: ThiefCall,
+    pub outcome: Outcome,
 }
 
 impl Thief {
@@ -81,136 +100,138 @@ pub(crate) fn thieves_in_range(thieves: [Thief; 8]) -> bool
     let mut i: usize = 0;
     while i < 8 {
         let thief = thieves[i];
-        ok = both(ok, thief.in_range());
+        ok = ok & thief.in_range();
         i += 1;
     }
     ok
 }
 
-impl Machine {
-    // The call of the thief with this number.
-    pub(crate) fn thief_call(self, thief: u32) -> ThiefCall
-        requires { ⌜ thief < 8 ⌝ }
-        ensures { λ r. ⌜ r ≡ thiefCall self thief ⌝ }
+impl ThiefCall {
+    // From which slot the next step loads.
+    pub(crate) fn loads(self) -> Load
+        ensures { λ r. ⌜ r ≡ loads self ⌝ }
     {
-        let thieves = self.thieves;
-        let found = thieves[thief as usize];
-        found.call
+        match self {
+            ThiefCall::Idle
+            | ThiefCall::StealLock
+            | ThiefCall::StealLoadHead
+            | ThiefCall::StealRaiseHead(_)
+            | ThiefCall::StealLoadTail(_)
+            | ThiefCall::StealUnlockTask(_)
+            | ThiefCall::StealRestoreHead(_)
+            | ThiefCall::StealUnlockAbort => Load::NoSlot,
+            ThiefCall::StealLoadSlot(h) => Load::SlotOf(h),
+        }
     }
+}
 
-    // Handed back with what the entry came to and the step that is next in that thief's call.
-    pub(crate) fn thief_comes_to(mut self, thief: u32, outcome: Outcome, call: ThiefCall) -> Done
-        requires { ⌜ thief < 8 ⌝ }
-        ensures { λ r. ⌜ r ≡ done outcome (withThief thief call self) ⌝ }
+impl ThiefView {
+    // Refused: all stays as it is.
+    fn stays(self, outcome: Outcome) -> ThiefMove
+        ensures { λ r. ⌜ r ≡ stays outcome self ⌝ }
     {
-        let mut thieves = self.thieves;
-        thieves[thief as usize] = Thief { call: call };
-        self.thieves = thieves;
-        Done {
-            machine: self,
+        let head = self.head;
+        let lock = self.lock;
+        let call = self.call;
+        ThiefMove {
+            head: head,
+            lock: lock,
+            call: call,
             outcome: outcome,
         }
     }
 
+    // Head is stored, and this step is next.
+    fn heads(self, head: Index, call: ThiefCall) -> ThiefMove
+        ensures { λ r. ⌜ r ≡ heading head call self ⌝ }
+    {
+        let lock = self.lock;
+        ThiefMove {
+            head: head,
+            lock: lock,
+            call: call,
+            outcome: Outcome::Moved,
+        }
+    }
+
+    // The call goes on: this step is next.
+    fn goes_on(self, call: ThiefCall) -> ThiefMove
+        ensures { λ r. ⌜ r ≡ goesOn call self ⌝ }
+    {
+        let head = self.head;
+        self.heads(head, call)
+    }
+
     // Steal, step 1: lock.
-    fn steal_lock(mut self, thief: u32) -> Done
-        requires { ⌜ thief < 8 ⌝ }
-        ensures { λ r. ⌜ r ≡ stealLock thief self ⌝ }
+    fn steal_lock(self) -> ThiefMove
+        ensures { λ r. ⌜ r ≡ stealLock self ⌝ }
     {
         let lock = self.lock;
         if lock.is_free() {
-            let held = Lock {
-                holder: Holder::TheThief(thief),
+            let head = self.head;
+            return ThiefMove {
+                head: head,
+                lock: Lock {
+                    holder: Holder::TheThief(self.me),
+                },
+                call: ThiefCall::StealLoadHead,
+                outcome: Outcome::Moved,
             };
-            self.lock = held;
-            return self.thief_comes_to(thief, Outcome::Moved, ThiefCall::StealLoadHead);
         }
-        self.waits()
-    }
-
-    // Steal, step 2: load head.
-    fn steal_load_head(self, thief: u32) -> Done
-        requires { ⌜ thief < 8 ⌝ }
-        ensures { λ r. ⌜ r ≡ stealLoadHead thief self ⌝ }
-    {
-        let head = self.head;
-        self.thief_comes_to(thief, Outcome::Moved, ThiefCall::StealRaiseHead(head))
-    }
-
-    // Steal, step 3: raise head.
-    fn steal_raise_head(mut self, thief: u32, h: Index) -> Done
-        requires { ⌜ (thief < 8) × (indexInRange h ≡ true) ⌝ }
-        ensures { λ r. ⌜ r ≡ stealRaiseHead thief h self ⌝ }
-    {
-        self.head = h.next();
-        self.thief_comes_to(thief, Outcome::Moved, ThiefCall::StealLoadTail(h))
+        self.stays(Outcome::Wait)
     }
 
     // Steal, step 4: load tail. The slot is next if the margin is kept, else head is put back.
-    fn steal_load_tail(self, thief: u32, h: Index) -> Done
-        requires { ⌜ (thief < 8) × (indexInRange (self .tail) ≡ true) ⌝ }
-        ensures { λ r. ⌜ r ≡ stealLoadTail thief h self ⌝ }
+    fn steal_load_tail(self, h: Index) -> ThiefMove
+        requires { ⌜ (indexInRange h ≡ true) × (indexInRange (self .tail) ≡ true) ⌝ }
+        ensures { λ r. ⌜ r ≡ stealLoadTail h self ⌝ }
     {
-        let sizes = self.sizes;
         let tail = self.tail;
-        let call = if h.keeps_margin(tail, sizes.margin_in_use()) {
-            ThiefCall::StealLoadSlot(h)
-        } else {
-            ThiefCall::StealRestoreHead(h)
-        };
-        self.thief_comes_to(thief, Outcome::Moved, call)
-    }
-
-    // Steal, step 5 where the margin is kept: load the slot.
-    fn steal_load_slot(self, thief: u32, h: Index) -> Done
-        requires { ⌜ (thief < 8) × (inRange self ≡ true) × (slotIndexInRange h ≡ true) ⌝ }
-        ensures { λ r. ⌜ r ≡ stealLoadSlot thief h self ⌝ }
-    {
-        let task = self.memory_load(h);
-        self.thief_comes_to(thief, Outcome::Moved, ThiefCall::StealUnlockTask(task))
-    }
-
-    // Steal, step 5 where the margin is not kept: put head back.
-    fn steal_restore_head(mut self, thief: u32, h: Index) -> Done
-        requires { ⌜ thief < 8 ⌝ }
-        ensures { λ r. ⌜ r ≡ stealRestoreHead thief h self ⌝ }
-    {
-        self.head = h;
-        self.thief_comes_to(thief, Outcome::Moved, ThiefCall::StealUnlockAbort)
+        if h.is_below_by_more(tail, self.margin) {
+            return self.goes_on(ThiefCall::StealLoadSlot(h));
+        }
+        self.goes_on(ThiefCall::StealRestoreHead(h))
     }
 
     // Steal, step 6: unlock, and answer.
-    fn steal_unlock(mut self, thief: u32, outcome: Outcome) -> Done
-        requires { ⌜ thief < 8 ⌝ }
-        ensures { λ r. ⌜ r ≡ stealUnlock thief outcome self ⌝ }
+    fn steal_unlock(self, outcome: Outcome) -> ThiefMove
+        ensures { λ r. ⌜ r ≡ stealUnlock outcome self ⌝ }
     {
-        let free = Lock {
-            holder: Holder::Nobody,
-        };
-        self.lock = free;
-        self.thief_comes_to(thief, outcome, ThiefCall::Idle)
+        let head = self.head;
+        ThiefMove {
+            head: head,
+            lock: Lock {
+                holder: Holder::Nobody,
+            },
+            call: ThiefCall::Idle,
+            outcome: outcome,
+        }
     }
+}
 
-    // The call of the thief with this number makes its next step.
-    pub fn thief_step(mut self, thief: u32) -> Done
-        ensures { λ r. ⌜ r ≡ obey self (ThiefStep thief) ⌝ }
-    {
-        if !both(self.in_range(), thief < self.sizes.thieves) {
-            return self.waits();
+// What the next step of a thief's call does.
+pub(crate) fn thief_move(view: ThiefView) -> ThiefMove
+    requires { ⌜ ThiefViewInRange view ⌝ }
+    ensures { λ r. ⌜ r ≡ thiefMove (view .call) view ⌝ }
+{
+    let call = view.call;
+    match call {
+        ThiefCall::Idle => return view.stays(Outcome::Place),
+        ThiefCall::StealLock => return view.steal_lock(),
+        ThiefCall::StealLoadHead => {
+            let head = view.head;
+            return view.goes_on(ThiefCall::StealRaiseHead(head));
         }
-        let call = self.thief_call(thief);
-        match call {
-            ThiefCall::Idle => return self.out_of_place(),
-            ThiefCall::StealLock => return self.steal_lock(thief),
-            ThiefCall::StealLoadHead => return self.steal_load_head(thief),
-            ThiefCall::StealRaiseHead(h) => return self.steal_raise_head(thief, h),
-            ThiefCall::StealLoadTail(h) => return self.steal_load_tail(thief, h),
-            ThiefCall::StealLoadSlot(h) => return self.steal_load_slot(thief, h),
-            ThiefCall::StealUnlockTask(task) => {
-                return self.steal_unlock(thief, Outcome::Task(task));
-            }
-            ThiefCall::StealRestoreHead(h) => return self.steal_restore_head(thief, h),
-            ThiefCall::StealUnlockAbort => return self.steal_unlock(thief, Outcome::Abort),
+        ThiefCall::StealRaiseHead(h) => {
+            let above = h.next();
+            return view.heads(above, ThiefCall::StealLoadTail(h));
         }
+        ThiefCall::StealLoadTail(h) => return view.steal_load_tail(h),
+        ThiefCall::StealLoadSlot(_) => {
+            return view.goes_on(ThiefCall::StealUnlockTask(view.loaded));
+        }
+        ThiefCall::StealUnlockTask(task) => return view.steal_unlock(Outcome::Task(task)),
+        ThiefCall::StealRestoreHead(h) => return view.heads(h, ThiefCall::StealUnlockAbort),
+        ThiefCall::StealUnlockAbort => return view.steal_unlock(Outcome::Abort),
     }
 }

@@ -1,24 +1,25 @@
-use crate::boolean::both;
-use crate::index::Index;
-use crate::machine::Done;
-use crate::machine::Holder;
-use crate::machine::Lock;
-use crate::machine::Machine;
-use crate::store_buffer::Store;
-use crate::store_buffer::StoreKind;
+use stores::Holder;
+use stores::Index;
+use stores::Load;
+use stores::Lock;
+use stores::Push;
+use stores::StoreKind;
 use terms::Outcome;
 ghost use mathlib.Core.Path.{_≡_};
 ghost use mathlib.Core.Bool.{true};
-ghost use Rattle.machine.specs.Index.{indexInRange, slotIndexInRange};
-ghost use Rattle.machine.specs.InRange.{inRange, workerInRange};
-ghost use Rattle.machine.specs.Machine.{done, hasRoom, needing, nothingPending};
-ghost use Rattle.machine.specs.Obey.{obey};
-ghost use Rattle.machine.specs.Types.{Nobody, WorkerStep};
-ghost use Rattle.machine.specs.Update.{pushed, withLock, withWorker};
+ghost use Rattle.stores.specs.Index.{indexInRange};
 ghost use Rattle.machine.specs.Worker.{
+  WorkerViewInRange,
+  answers,
+  atEnd,
+  goesOn,
+  loads,
+  locking,
   putLoadHead,
   putStoreSlot,
   putStoreTail,
+  stays,
+  storing,
   takeLoadHead,
   takeLoadSlot,
   takeLock,
@@ -27,6 +28,8 @@ ghost use Rattle.machine.specs.Worker.{
   takeStoreTail,
   takeUnlockEmpty,
   takeUnlockTask,
+  workerInRange,
+  workerMove,
   workerRuns,
 };
 
@@ -60,19 +63,38 @@ pub enum WorkerCall {
     TakeLoadLastSlot(Index),
 }
 
-// The worker.
-pub struct Worker {
+// What the worker sees at a step.
+pub struct WorkerView {
     // Its call in progress.
     pub call: WorkerCall,
+    // How many slots there are.
+    pub slots: u32,
+    // The tail, past its own pending stores.
+    pub tail: Index,
+    pub head: Index,
+    pub lock: Lock,
+    // Whether another store may be pending.
+    pub room: bool,
+    // Whether no store is.
+    pub drained: bool,
+    // The task in the slot that the step loads from; 0 where it loads from none.
+    pub loaded: u32,
 }
 
-impl Worker {
+// What a step does: the store that it makes, the lock and the call after it, and its outcome.
+pub struct WorkerMove {
+    pub push: Push,
+    pub lock: Lock,
+    pub call: WorkerCall,
+    pub outcome: Outcome,
+}
+
+impl WorkerCall {
     // Whether every index that the call holds is in range.
     pub(crate) fn in_range(self) -> bool
-        ensures { λ r. ⌜ r ≡ workerInRange (self .call) ⌝ }
+        ensures { λ r. ⌜ r ≡ workerInRange self ⌝ }
     {
-        let call = self.call;
-        match call {
+        match self {
             WorkerCall::Idle
             | WorkerCall::PutLoadHead(_)
             | WorkerCall::PutStoreSlot(_)
@@ -88,223 +110,277 @@ impl Worker {
             WorkerCall::TakeLoadLastSlot(t) => t.slot_in_range(),
         }
     }
-}
 
-impl Machine {
-    // Whether a call of the worker's runs.
-    pub(crate) fn worker_runs(self) -> bool
-        ensures { λ r. ⌜ r ≡ workerRuns (self .worker .call) ⌝ }
+    // Whether a call runs.
+    pub(crate) fn runs(self) -> bool
+        ensures { λ r. ⌜ r ≡ workerRuns self ⌝ }
     {
-        let worker = self.worker;
-        let call = worker.call;
-        if let WorkerCall::Idle = call {
-            return false;
+        if let WorkerCall::Idle = self {
+            false
+        } else {
+            true
         }
-        true
     }
 
-    // Handed back with what the entry came to and the step that is next in the worker's call.
-    pub(crate) fn worker_comes_to(mut self, outcome: Outcome, call: WorkerCall) -> Done
-        ensures { λ r. ⌜ r ≡ done outcome (withWorker call self) ⌝ }
+    // From which slot the next step loads.
+    pub(crate) fn loads(self) -> Load
+        ensures { λ r. ⌜ r ≡ loads self ⌝ }
     {
-        let worker = Worker { call: call };
-        self.worker = worker;
-        Done {
-            machine: self,
+        match self {
+            WorkerCall::Idle
+            | WorkerCall::PutLoadHead(_)
+            | WorkerCall::PutStoreSlot(_)
+            | WorkerCall::PutStoreTail
+            | WorkerCall::TakeStoreTail
+            | WorkerCall::TakeLoadHead(_)
+            | WorkerCall::TakeLock(_)
+            | WorkerCall::TakeReloadHead(_)
+            | WorkerCall::TakeRestoreTail(_)
+            | WorkerCall::TakeUnlockEmpty
+            | WorkerCall::TakeUnlockTask(_) => Load::NoSlot,
+            WorkerCall::TakeLoadSlot(t) => Load::SlotOf(t),
+            WorkerCall::TakeLoadLastSlot(t) => Load::SlotOf(t),
+        }
+    }
+}
+
+impl WorkerView {
+    // Refused: all stays as it is.
+    fn stays(self, outcome: Outcome) -> WorkerMove
+        ensures { λ r. ⌜ r ≡ stays outcome self ⌝ }
+    {
+        let lock = self.lock;
+        let call = self.call;
+        WorkerMove {
+            push: Push::Nothing,
+            lock: lock,
+            call: call,
             outcome: outcome,
         }
     }
 
-    // A step that makes a store, for which there must be room.
-    fn worker_stores(mut self, kind: StoreKind, outcome: Outcome, call: WorkerCall) -> Done
-        requires { ⌜ inRange self ≡ true ⌝ }
-        ensures { λ r. ⌜
-            r
-            ≡ needing (hasRoom self) self
-            (done outcome (withWorker call (pushed (record { kind = kind }) self)))
-            ⌝ }
+    // The call goes on: this step is next.
+    fn goes_on(self, call: WorkerCall) -> WorkerMove
+        ensures { λ r. ⌜ r ≡ goesOn call self ⌝ }
     {
-        if self.buffer.count < self.sizes.buffer as usize {
-            let store = Store { kind: kind };
-            let buffer = self.buffer;
-            self.buffer = buffer.push(store);
-            return self.worker_comes_to(outcome, call);
+        let lock = self.lock;
+        WorkerMove {
+            push: Push::Nothing,
+            lock: lock,
+            call: call,
+            outcome: Outcome::Moved,
         }
-        self.waits()
     }
 
-    // A step that frees the lock, for which nothing may be pending.
-    fn worker_unlocks(mut self, outcome: Outcome, call: WorkerCall) -> Done
-        ensures { λ r. ⌜
-            r
-            ≡ needing (nothingPending self) self (done outcome (withWorker call (withLock Nobody self)))
-            ⌝ }
+    // The call ends with this answer.
+    fn answers(self, outcome: Outcome) -> WorkerMove
+        ensures { λ r. ⌜ r ≡ answers outcome self ⌝ }
     {
-        if self.buffer.count == 0 {
-            let free = Lock {
-                holder: Holder::Nobody,
-            };
-            self.lock = free;
-            return self.worker_comes_to(outcome, call);
+        let lock = self.lock;
+        WorkerMove {
+            push: Push::Nothing,
+            lock: lock,
+            call: WorkerCall::Idle,
+            outcome: outcome,
         }
-        self.waits()
+    }
+
+    // A store is made, for which there must be room.
+    fn stores(self, kind: StoreKind, outcome: Outcome, call: WorkerCall) -> WorkerMove
+        ensures { λ r. ⌜ r ≡ storing kind outcome call self ⌝ }
+    {
+        if self.room {
+            let lock = self.lock;
+            return WorkerMove {
+                push: Push::One(kind),
+                lock: lock,
+                call: call,
+                outcome: outcome,
+            };
+        }
+        self.stays(Outcome::Wait)
+    }
+
+    // The lock changes hands, for which something must be met.
+    fn locks(self, met: bool, holder: Holder, outcome: Outcome, call: WorkerCall) -> WorkerMove
+        ensures { λ r. ⌜ r ≡ locking met holder outcome call self ⌝ }
+    {
+        if met {
+            return WorkerMove {
+                push: Push::Nothing,
+                lock: Lock { holder: holder },
+                call: call,
+                outcome: outcome,
+            };
+        }
+        self.stays(Outcome::Wait)
+    }
+
+    // Whether the tail has its greatest value.
+    fn at_end(self) -> bool
+        ensures { λ r. ⌜ r ≡ atEnd self ⌝ }
+    {
+        let tail = self.tail;
+        let end = Index { at: 2147483647 };
+        tail.at_most(end) & end.at_most(tail)
     }
 
     // Put, step 1: load head. The put ends here if the tail or the slots leave no room.
-    fn put_load_head(self, task: u32) -> Done
-        requires { ⌜ inRange self ≡ true ⌝ }
+    fn put_load_head(self, task: u32) -> WorkerMove
+        requires { ⌜ WorkerViewInRange self ⌝ }
         ensures { λ r. ⌜ r ≡ putLoadHead task self ⌝ }
     {
-        let tail = self.worker_tail();
+        let tail = self.tail;
         let head = self.head;
-        if tail.at_end() {
-            return self.worker_comes_to(Outcome::End, WorkerCall::Idle);
+        if self.at_end() {
+            return self.answers(Outcome::End);
         }
-        if tail.is_full(head, self.sizes.slots) {
-            return self.worker_comes_to(Outcome::Full, WorkerCall::Idle);
+        if tail.is_above_by(head, self.slots - 1) {
+            return self.answers(Outcome::Full);
         }
-        self.worker_comes_to(Outcome::Moved, WorkerCall::PutStoreSlot(task))
+        self.goes_on(WorkerCall::PutStoreSlot(task))
     }
 
     // Put, step 2: store the task at the tail's index.
-    fn put_store_slot(self, task: u32) -> Done
-        requires { ⌜ inRange self ≡ true ⌝ }
+    fn put_store_slot(self, task: u32) -> WorkerMove
         ensures { λ r. ⌜ r ≡ putStoreSlot task self ⌝ }
     {
-        let tail = self.worker_tail();
-        self.worker_stores(
-            StoreKind::Slot(tail, task),
+        let tail = self.tail;
+        self.stores(
+            StoreKind::Slot(task, tail),
             Outcome::Moved,
             WorkerCall::PutStoreTail,
         )
     }
 
     // Put, step 3: store the raised tail.
-    fn put_store_tail(self) -> Done
-        requires { ⌜ inRange self ≡ true ⌝ }
+    fn put_store_tail(self) -> WorkerMove
+        requires { ⌜ WorkerViewInRange self ⌝ }
         ensures { λ r. ⌜ r ≡ putStoreTail self ⌝ }
     {
-        let tail = self.worker_tail();
-        let raised = tail.next();
-        self.worker_stores(StoreKind::Tail(raised), Outcome::Stored, WorkerCall::Idle)
+        let tail = self.tail;
+        self.stores(
+            StoreKind::Tail(tail.next()),
+            Outcome::Stored,
+            WorkerCall::Idle,
+        )
     }
 
     // Take, step 1: store the lowered tail.
-    fn take_store_tail(self) -> Done
-        requires { ⌜ inRange self ≡ true ⌝ }
+    fn take_store_tail(self) -> WorkerMove
+        requires { ⌜ WorkerViewInRange self ⌝ }
         ensures { λ r. ⌜ r ≡ takeStoreTail self ⌝ }
     {
-        let tail = self.worker_tail();
-        let lowered = tail.previous();
-        self.worker_stores(
-            StoreKind::Tail(lowered),
+        let tail = self.tail;
+        let t = tail.previous();
+        self.stores(
+            StoreKind::Tail(t),
             Outcome::Moved,
-            WorkerCall::TakeLoadHead(lowered),
+            WorkerCall::TakeLoadHead(t),
         )
     }
 
     // Take, step 2: load head. The slot is next if head is not above t, else the lock.
-    fn take_load_head(self, t: Index) -> Done
+    fn take_load_head(self, t: Index) -> WorkerMove
         ensures { λ r. ⌜ r ≡ takeLoadHead t self ⌝ }
     {
         let head = self.head;
-        let call = if head.at_most(t) {
-            WorkerCall::TakeLoadSlot(t)
-        } else {
-            WorkerCall::TakeLock(t)
-        };
-        self.worker_comes_to(Outcome::Moved, call)
-    }
-
-    // Take, step 3 where t is at or above head, and step 6 where the task is still there: load the slot.
-    fn take_load_slot(self, t: Index) -> Done
-        requires { ⌜ (inRange self ≡ true) × (slotIndexInRange t ≡ true) ⌝ }
-        ensures { λ r. ⌜ r ≡ takeLoadSlot t self ⌝ }
-    {
-        let task = self.worker_load(t);
-        self.worker_comes_to(Outcome::Task(task), WorkerCall::Idle)
+        if head.at_most(t) {
+            return self.goes_on(WorkerCall::TakeLoadSlot(t));
+        }
+        self.goes_on(WorkerCall::TakeLock(t))
     }
 
     // Take, step 3 where t is below head: lock.
-    fn take_lock(mut self, t: Index) -> Done
+    fn take_lock(self, t: Index) -> WorkerMove
         ensures { λ r. ⌜ r ≡ takeLock t self ⌝ }
     {
         let lock = self.lock;
-        if both(lock.is_free(), self.buffer.count == 0) {
-            let held = Lock {
-                holder: Holder::TheWorker,
-            };
-            self.lock = held;
-            return self.worker_comes_to(Outcome::Moved, WorkerCall::TakeReloadHead(t));
-        }
-        self.waits()
+        let met = lock.is_free() & self.drained;
+        self.locks(
+            met,
+            Holder::TheWorker,
+            Outcome::Moved,
+            WorkerCall::TakeReloadHead(t),
+        )
     }
 
     // Take, step 4: load head again. The tail is put back next if head is still above t, else the lock is freed.
-    fn take_reload_head(self, t: Index) -> Done
+    fn take_reload_head(self, t: Index) -> WorkerMove
         requires { ⌜ indexInRange t ≡ true ⌝ }
         ensures { λ r. ⌜ r ≡ takeReloadHead t self ⌝ }
     {
         let head = self.head;
         let above = t.next();
-        let call = if above.at_most(head) {
-            WorkerCall::TakeRestoreTail(t)
-        } else {
-            WorkerCall::TakeUnlockTask(t)
-        };
-        self.worker_comes_to(Outcome::Moved, call)
+        if above.at_most(head) {
+            return self.goes_on(WorkerCall::TakeRestoreTail(t));
+        }
+        self.goes_on(WorkerCall::TakeUnlockTask(t))
     }
 
     // Take, step 5 where the task is gone: store the old tail.
-    fn take_restore_tail(self, t: Index) -> Done
-        requires { ⌜ (inRange self ≡ true) × (indexInRange t ≡ true) ⌝ }
+    fn take_restore_tail(self, t: Index) -> WorkerMove
+        requires { ⌜ indexInRange t ≡ true ⌝ }
         ensures { λ r. ⌜ r ≡ takeRestoreTail t self ⌝ }
     {
-        let restored = t.next();
-        self.worker_stores(
-            StoreKind::Tail(restored),
+        self.stores(
+            StoreKind::Tail(t.next()),
             Outcome::Moved,
             WorkerCall::TakeUnlockEmpty,
         )
     }
 
     // Take, step 6 where the task is gone: unlock.
-    fn take_unlock_empty(self) -> Done
+    fn take_unlock_empty(self) -> WorkerMove
         ensures { λ r. ⌜ r ≡ takeUnlockEmpty self ⌝ }
     {
-        self.worker_unlocks(Outcome::Empty, WorkerCall::Idle)
+        self.locks(
+            self.drained,
+            Holder::Nobody,
+            Outcome::Empty,
+            WorkerCall::Idle,
+        )
     }
 
     // Take, step 5 where the task is still there: unlock.
-    fn take_unlock_task(self, t: Index) -> Done
+    fn take_unlock_task(self, t: Index) -> WorkerMove
         ensures { λ r. ⌜ r ≡ takeUnlockTask t self ⌝ }
     {
-        self.worker_unlocks(Outcome::Moved, WorkerCall::TakeLoadLastSlot(t))
+        self.locks(
+            self.drained,
+            Holder::Nobody,
+            Outcome::Moved,
+            WorkerCall::TakeLoadLastSlot(t),
+        )
     }
 
-    // The worker's call makes its next step.
-    pub fn worker_step(mut self) -> Done
-        ensures { λ r. ⌜ r ≡ obey self WorkerStep ⌝ }
+    // Take, step 3 where t is at or above head, and step 6 where the task is still there: load the slot.
+    fn take_load_slot(self) -> WorkerMove
+        ensures { λ r. ⌜ r ≡ takeLoadSlot self ⌝ }
     {
-        if !self.in_range() {
-            return self.waits();
-        }
-        let worker = self.worker;
-        let call = worker.call;
-        match call {
-            WorkerCall::Idle => return self.out_of_place(),
-            WorkerCall::PutLoadHead(task) => return self.put_load_head(task),
-            WorkerCall::PutStoreSlot(task) => return self.put_store_slot(task),
-            WorkerCall::PutStoreTail => return self.put_store_tail(),
-            WorkerCall::TakeStoreTail => return self.take_store_tail(),
-            WorkerCall::TakeLoadHead(t) => return self.take_load_head(t),
-            WorkerCall::TakeLoadSlot(t) => return self.take_load_slot(t),
-            WorkerCall::TakeLock(t) => return self.take_lock(t),
-            WorkerCall::TakeReloadHead(t) => return self.take_reload_head(t),
-            WorkerCall::TakeRestoreTail(t) => return self.take_restore_tail(t),
-            WorkerCall::TakeUnlockEmpty => return self.take_unlock_empty(),
-            WorkerCall::TakeUnlockTask(t) => return self.take_unlock_task(t),
-            WorkerCall::TakeLoadLastSlot(t) => return self.take_load_slot(t),
-        }
+        self.answers(Outcome::Task(self.loaded))
+    }
+}
+
+// What the next step of the worker's call does.
+pub(crate) fn worker_move(view: WorkerView) -> WorkerMove
+    requires { ⌜ WorkerViewInRange view ⌝ }
+    ensures { λ r. ⌜ r ≡ workerMove (view .call) view ⌝ }
+{
+    let call = view.call;
+    match call {
+        WorkerCall::Idle => return view.stays(Outcome::Place),
+        WorkerCall::PutLoadHead(task) => return view.put_load_head(task),
+        WorkerCall::PutStoreSlot(task) => return view.put_store_slot(task),
+        WorkerCall::PutStoreTail => return view.put_store_tail(),
+        WorkerCall::TakeStoreTail => return view.take_store_tail(),
+        WorkerCall::TakeLoadHead(t) => return view.take_load_head(t),
+        WorkerCall::TakeLoadSlot(_) => return view.take_load_slot(),
+        WorkerCall::TakeLock(t) => return view.take_lock(t),
+        WorkerCall::TakeReloadHead(t) => return view.take_reload_head(t),
+        WorkerCall::TakeRestoreTail(t) => return view.take_restore_tail(t),
+        WorkerCall::TakeUnlockEmpty => return view.take_unlock_empty(),
+        WorkerCall::TakeUnlockTask(t) => return view.take_unlock_task(t),
+        WorkerCall::TakeLoadLastSlot(_) => return view.take_load_slot(),
     }
 }

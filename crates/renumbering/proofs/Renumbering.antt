@@ -6,21 +6,25 @@ use Prim.Native.Nat.{ℕ}
 use lib.Dec.{eqb}
 use lib.ListN.{List·getD-map, getD, replicate}
 use Rattle.terms.proofs.Laws.Tests.{cond-map}
-use Rattle.renumbering.specs.Types.{Entry, Drain, ClientStore, BeginPut, BeginTake, WorkerStep, BeginSteal, ThiefStep, Done, Index, Machine, Nobody, TheThief, Outcome, Moved, Stored, Task, Abort, Sizes, Store, StoreBuffer, StoreKind, Client, Tail, Slot, Thief, ThiefCall, StealLock, StealLoadHead, StealRaiseHead, StealLoadTail, StealLoadSlot, StealUnlockTask, StealRestoreHead, StealUnlockAbort, WorkerCall, PutLoadHead, PutStoreSlot, PutStoreTail, TakeStoreTail, TakeLoadHead, TakeLoadSlot, TakeLock, TakeReloadHead, TakeRestoreTail, TakeUnlockEmpty, TakeUnlockTask, TakeLoadLastSlot}
-use Rattle.machine.specs.Index.{next, previous, slotOf}
-use Rattle.machine.specs.StoreBuffer.{clientStore, dropOldest, oldest, pending, slotAfter, slotsAfter, slotStore, tailAfter, tailStore}
-use Rattle.machine.specs.Machine.{done, fresh, hasRoom, idleThief, lockIsFree, memoryLoad, needing, nothingPending, thiefCall, workerLoad, workerTail}
-use Rattle.machine.specs.Update.{pushed, withHead, withLock, withMemory, withThief, withWorker}
-use Rattle.machine.specs.InRange.{inRange, storeInRange, thiefInRange, workerInRange}
-use Rattle.machine.specs.Worker.{atEnd, atOrAboveHead, countedStore, headIsPast, isFull, stepOfWorker, takeLoadSlot, tooEarly, unlessWorkerRuns, workerAnswers, workerGoesOn, workerRuns}
-use Rattle.machine.specs.Thief.{marginKept, stepOfThief, thiefRuns}
-use Rattle.machine.specs.Obey.{drain, obey, obeyInRange, outcomesOf, thiefIsThere}
+use Rattle.terms.proofs.Laws.Lists.{all-map, foldl-map, map-drop, map-replicate, map-set, map-take}
+use Rattle.stores.specs.Index.{slotOf}
+use Rattle.stores.specs.Lock.{isNobody}
+use Rattle.stores.specs.Spacing.{tooEarly}
+use Rattle.stores.specs.StoreBuffer.{clientStore, dropOldest, oldest, pending, pushedIn, slotAfter, slotsAfter, storeInRange, tailAfter}
+use Rattle.machine.specs.Worker.{atEnd, atOrAboveHead, headIsPast, isFull, loads, workerInRange, workerMove, workerRuns}
+use Rattle.machine.specs.Thief.{idleThief, keepsMargin, loads as thiefLoads, thiefInRange, thiefMove, thiefRuns}
+use Rattle.machine.specs.Machine.{done, fresh, hasRoom, memoryLoad, memoryLoads, nothingPending, thiefCall, workerLoad, workerLoads, workerTail}
+use Rattle.machine.specs.Update.{withMemory, withThief, withWorker}
+use Rattle.machine.specs.InRange.{inRange}
+use Rattle.machine.specs.Obey.{obey, obeyInRange, outcomesOf, thiefIsThere}
+use Rattle.machine.specs.Perform.{thiefView, workerView, performWorker, stepOfWorker, performThief, stepOfThief}
+use Rattle.machine.specs.Entries.{drain, unlessWorkerRuns, workerGoesOn}
+use Rattle.renumbering.specs.Types.{Entry, Drain, ClientStore, BeginPut, BeginTake, WorkerStep, BeginSteal, ThiefStep, Done, Index, Load, NoSlot, SlotOf, Machine, Outcome, Moved, Sizes, Store, StoreBuffer, StoreKind, Client, Tail, Slot, Push, Nothing, One, Thief, ThiefCall, StealLock, StealLoadHead, StealRaiseHead, StealLoadTail, StealLoadSlot, StealUnlockTask, StealRestoreHead, StealUnlockAbort, ThiefView, ThiefMove, WorkerCall, PutLoadHead, PutStoreSlot, PutStoreTail, TakeStoreTail, TakeLoadHead, TakeLoadSlot, TakeLock, TakeReloadHead, TakeRestoreTail, TakeUnlockEmpty, TakeUnlockTask, TakeLoadLastSlot, WorkerView, WorkerMove}
 use Rattle.renumbering.specs.Renumbering.{BlindToNumbers, renumberEntry, renumberOutcome}
-use Rattle.machine.proofs.Laws.Lists.{all-map, foldl-map, map-drop, map-replicate, map-set, map-take}
 
 -- the thieves replaced
 abbrev withThieves : List Thief → Machine → Machine
-withThieves l m = record { sizes = m .sizes; slots = m .slots; head = m .head; tail = m .tail; lock = m .lock; buffer = m .buffer; since = m .since; taken = m .taken; worker = m .worker; thieves = l }
+withThieves l m = record { sizes = m .sizes; slots = m .slots; head = m .head; tail = m .tail; lock = m .lock; buffer = m .buffer; spacing = m .spacing; worker = m .worker; thieves = l }
 
 module _ (f : ℕ → ℕ) where
   -- ── A machine numbered anew by f ────────────────────────────────────────────────────────────────────────────────────────────
@@ -28,7 +32,7 @@ module _ (f : ℕ → ℕ) where
   abbrev renumberKind : StoreKind → StoreKind
   renumberKind Client = Client
   renumberKind (Tail t) = Tail t
-  renumberKind (Slot i x) = Slot i (f x)
+  renumberKind (Slot x i) = Slot (f x) i
 
   abbrev renumberStore : Store → Store
   renumberStore s = record { kind = renumberKind (s .kind) }
@@ -73,14 +77,52 @@ module _ (f : ℕ → ℕ) where
   abbrev renumberDone : Done → Done
   renumberDone d = record { machine = renumber (d .machine); outcome = renumberOutcome f (d .outcome) }
 
+  -- .. what a party sees, and what its step does
+
+  abbrev renumberPush : Push → Push
+  renumberPush Nothing = Nothing
+  renumberPush (One k) = One (renumberKind k)
+
+  abbrev renumberWorkerView : WorkerView → WorkerView
+  renumberWorkerView v =
+      record {
+        call = renumberWorker (v .call);
+        slots = v .slots;
+        tail = v .tail;
+        head = v .head;
+        lock = v .lock;
+        room = v .room;
+        drained = v .drained;
+        loaded = f (v .loaded);
+      }
+
+  abbrev renumberWorkerMove : WorkerMove → WorkerMove
+  renumberWorkerMove d =
+      record { push = renumberPush (d .push); lock = d .lock; call = renumberWorker (d .call); outcome = renumberOutcome f (d .outcome) }
+
+  abbrev renumberThiefView : ThiefView → ThiefView
+  renumberThiefView v =
+      record {
+        call = renumberSteal (v .call);
+        me = v .me;
+        head = v .head;
+        tail = v .tail;
+        lock = v .lock;
+        margin = v .margin;
+        loaded = f (v .loaded);
+      }
+
+  abbrev renumberThiefMove : ThiefMove → ThiefMove
+  renumberThiefMove d = record { head = d .head; lock = d .lock; call = renumberSteal (d .call); outcome = renumberOutcome f (d .outcome) }
+
   -- ── What looks at no number comes out the same ──────────────────────────────────────────────────────────────────────────────
 
-  -- a function that comes to the same wherever a number stands comes to the same at a kind of store, at a worker's and at a thief's call
-  kind-blind : {A : Type 0} (g : StoreKind → A) → ((i : Index) (x : ℕ) → g (Slot i (f x)) ≡ g (Slot i x))
+  -- a function that has the same value wherever a number stands has the same value at a kind of store, at a worker's and at a thief's call
+  kind-blind : {A : Type 0} (g : StoreKind → A) → ((i : Index) (x : ℕ) → g (Slot (f x) i) ≡ g (Slot x i))
       → (k : StoreKind) → g (renumberKind k) ≡ g k
   kind-blind g slot Client = refl
   kind-blind g slot (Tail t) = refl
-  kind-blind g slot (Slot i x) = slot i x
+  kind-blind g slot (Slot x i) = slot i x
 
   worker-blind : {A : Type 0} (g : WorkerCall → A) → ((x : ℕ) → g (PutLoadHead (f x)) ≡ g (PutLoadHead x))
       → ((x : ℕ) → g (PutStoreSlot (f x)) ≡ g (PutStoreSlot x)) → (c : WorkerCall) → g (renumberWorker c) ≡ g c
@@ -141,17 +183,16 @@ module _ (f : ℕ → ℕ) where
 
   -- ── What an entry changes ───────────────────────────────────────────────────────────────────────────────────────────────────
 
-  -- a store becomes pending if there is room, and the step then ends in a way that looks at no number
-  push-renumber : (end : Machine → Done) → ((m : Machine) → end (renumber m) ≡ renumberDone (end m)) → (s : Store) (m : Machine)
-      → needing (hasRoom m) (renumber m) (end (pushed (renumberStore s) (renumber m))) ≡ renumberDone (needing (hasRoom m) m (end (pushed s m)))
-  push-renumber end blind s m =
-      rw (map-set renumberStore (m .buffer .stores) (m .buffer .count) s) (cond-map renumberDone (hasRoom m) (blind (pushed s m)) refl)
+  -- a store becomes pending, if there is one
+  push-renumber : (p : Push) (b : StoreBuffer) → pushedIn (renumberPush p) (renumberBuffer b) ≡ renumberBuffer (pushedIn p b)
+  push-renumber Nothing b = refl
+  push-renumber (One k) b = rw (map-set renumberStore (b .stores) (b .count) (record { kind = k }))
 
   -- a drain: what the oldest store leaves in the slots, the oldest store, and the others
   slots-renumber : (n : ℕ) (l : List ℕ) (k : StoreKind) → slotsAfter n (map f l) (renumberKind k) ≡ map f (slotsAfter n l k)
   slots-renumber n l Client = refl
   slots-renumber n l (Tail t) = refl
-  slots-renumber n l (Slot i x) = map-set f l (slotOf n i) x
+  slots-renumber n l (Slot x i) = map-set f l (slotOf n i) x
 
   oldest-renumber : (b : StoreBuffer) → oldest (renumberBuffer b) ≡ renumberStore (oldest b)
   oldest-renumber b = List·getD-map renumberStore (b .stores) 0 clientStore
@@ -189,11 +230,41 @@ module _ (f : ℕ → ℕ) where
   slot-renumber : (n k v : ℕ) (s : StoreKind) → slotAfter n k (f v) (renumberKind s) ≡ f (slotAfter n k v s)
   slot-renumber n k v Client = refl
   slot-renumber n k v (Tail t) = refl
-  slot-renumber n k v (Slot i x) = cond-map f (eqb (slotOf n i) k) refl refl
+  slot-renumber n k v (Slot x i) = cond-map f (eqb (slotOf n i) k) refl refl
+
+  -- ── Each step, as its party sees the machine ────────────────────────────────────────────────────────────────────────────────
+
+  work-renumber : (c : WorkerCall) (v : WorkerView)
+      → workerMove (renumberWorker c) (renumberWorkerView v) ≡ renumberWorkerMove (workerMove c v)
+  work-renumber WorkerCall.Idle v = refl
+  work-renumber (PutLoadHead x) v = cond-map renumberWorkerMove (atEnd v) refl (cond-map renumberWorkerMove (isFull v) refl refl)
+  work-renumber (PutStoreSlot x) v = cond-map renumberWorkerMove (v .room) refl refl
+  work-renumber PutStoreTail v = cond-map renumberWorkerMove (v .room) refl refl
+  work-renumber TakeStoreTail v = cond-map renumberWorkerMove (v .room) refl refl
+  work-renumber (TakeLoadHead t) v = cond-map renumberWorkerMove (atOrAboveHead t v) refl refl
+  work-renumber (TakeLoadSlot t) v = refl
+  work-renumber (TakeLock t) v = cond-map renumberWorkerMove (isNobody (v .lock .holder) && v .drained) refl refl
+  work-renumber (TakeReloadHead t) v = cond-map renumberWorkerMove (headIsPast t v) refl refl
+  work-renumber (TakeRestoreTail t) v = cond-map renumberWorkerMove (v .room) refl refl
+  work-renumber TakeUnlockEmpty v = cond-map renumberWorkerMove (v .drained) refl refl
+  work-renumber (TakeUnlockTask t) v = cond-map renumberWorkerMove (v .drained) refl refl
+  work-renumber (TakeLoadLastSlot t) v = refl
+
+  steal-renumber : (c : ThiefCall) (v : ThiefView)
+      → thiefMove (renumberSteal c) (renumberThiefView v) ≡ renumberThiefMove (thiefMove c v)
+  steal-renumber ThiefCall.Idle v = refl
+  steal-renumber StealLock v = cond-map renumberThiefMove (isNobody (v .lock .holder)) refl refl
+  steal-renumber StealLoadHead v = refl
+  steal-renumber (StealRaiseHead h) v = refl
+  steal-renumber (StealLoadTail h) v = cond-map renumberThiefMove (keepsMargin h (v .tail) (v .margin)) refl refl
+  steal-renumber (StealLoadSlot h) v = refl
+  steal-renumber (StealUnlockTask x) v = refl
+  steal-renumber (StealRestoreHead h) v = refl
+  steal-renumber StealUnlockAbort v = refl
 
   -- ── With 0 for 0: a slot that holds no task holds 0 ─────────────────────────────────────────────────────────────────────────
   module _ (zero-kept : f 0 ≡ 0) where
-    -- what a thief and what the worker load from a slot, and the answer of a take
+    -- what a thief and what the worker load from a slot
     thief-load-renumber : (m : Machine) (i : Index) → memoryLoad (renumber m) i ≡ f (memoryLoad m i)
     thief-load-renumber m i =
         let k = slotOf (m .sizes .slots) i in
@@ -204,50 +275,45 @@ module _ (f : ℕ → ℕ) where
         rw (thief-load-renumber m i, pending-renumber (m .buffer))
         (foldl-map renumberStore f _ _ (λ v s. slot-renumber _ _ v (s .kind)) (memoryLoad m i) (pending (m .buffer)))
 
-    take-renumber : (t : Index) (m : Machine) → takeLoadSlot t (renumber m) ≡ renumberDone (takeLoadSlot t m)
-    take-renumber t m = ap (λ x. workerAnswers (Task x) (renumber m)) (worker-load-renumber m t)
+    -- .. if they load from one
+    thief-loads-renumber : (m : Machine) (l : Load) → memoryLoads (renumber m) l ≡ f (memoryLoads m l)
+    thief-loads-renumber m NoSlot = sym zero-kept
+    thief-loads-renumber m (SlotOf i) = thief-load-renumber m i
 
-    -- each step, each entry, each list
-    work-renumber : (m : Machine) (c : WorkerCall) → stepOfWorker (renumber m) (renumberWorker c) ≡ renumberDone (stepOfWorker m c)
-    work-renumber m WorkerCall.Idle = refl
-    work-renumber m (PutLoadHead x) = rw (tail-renumber m) (cond-map renumberDone (atEnd m) refl (cond-map renumberDone (isFull m) refl refl))
-    work-renumber m (PutStoreSlot x) =
-        rw (tail-renumber m) (push-renumber (workerGoesOn PutStoreTail) (λ n. refl) (slotStore (workerTail m) x) m)
-    work-renumber m PutStoreTail = rw (tail-renumber m) (push-renumber (workerAnswers Stored) (λ n. refl) (tailStore (next (workerTail m))) m)
-    work-renumber m TakeStoreTail =
-        let t = previous (workerTail m) in
-        rw (tail-renumber m) (push-renumber (workerGoesOn (TakeLoadHead t)) (λ n. refl) (tailStore t) m)
-    work-renumber m (TakeLoadHead t) = cond-map renumberDone (atOrAboveHead t m) refl refl
-    work-renumber m (TakeLoadSlot t) = take-renumber t m
-    work-renumber m (TakeLock t) = cond-map renumberDone (lockIsFree m && nothingPending m) refl refl
-    work-renumber m (TakeReloadHead t) = cond-map renumberDone (headIsPast t m) refl refl
-    work-renumber m (TakeRestoreTail t) = push-renumber (workerGoesOn TakeUnlockEmpty) (λ n. refl) (tailStore (next t)) m
-    work-renumber m TakeUnlockEmpty = cond-map renumberDone (nothingPending m) refl refl
-    work-renumber m (TakeUnlockTask t) = cond-map renumberDone (nothingPending m) refl refl
-    work-renumber m (TakeLoadLastSlot t) = take-renumber t m
+    worker-loads-renumber : (m : Machine) (l : Load) → workerLoads (renumber m) l ≡ f (workerLoads m l)
+    worker-loads-renumber m NoSlot = sym zero-kept
+    worker-loads-renumber m (SlotOf i) = worker-load-renumber m i
 
-    steal-renumber : (i : ℕ) (m : Machine) (c : ThiefCall) → stepOfThief i (renumber m) (renumberSteal c) ≡ renumberDone (stepOfThief i m c)
-    steal-renumber i m ThiefCall.Idle = refl
-    steal-renumber i m StealLock = cond-map renumberDone (lockIsFree m) (thief-renumber Moved i StealLoadHead (withLock (TheThief i) m)) refl
-    steal-renumber i m StealLoadHead = thief-renumber Moved i (StealRaiseHead (m .head)) m
-    steal-renumber i m (StealRaiseHead h) = thief-renumber Moved i (StealLoadTail h) (withHead (next h) m)
-    steal-renumber i m (StealLoadTail h) =
-        cond-map renumberDone (marginKept h m) (thief-renumber Moved i (StealLoadSlot h) m) (thief-renumber Moved i (StealRestoreHead h) m)
-    steal-renumber i m (StealLoadSlot h) = rw (thief-load-renumber m h) (thief-renumber Moved i (StealUnlockTask (memoryLoad m h)) m)
-    steal-renumber i m (StealUnlockTask x) = thief-renumber (Task x) i ThiefCall.Idle (withLock Nobody m)
-    steal-renumber i m (StealRestoreHead h) = thief-renumber Moved i StealUnlockAbort (withHead h m)
-    steal-renumber i m StealUnlockAbort = thief-renumber Abort i ThiefCall.Idle (withLock Nobody m)
+    -- what a party sees, and what its step does to the machine
+    worker-step-renumber : (m : Machine) (c : WorkerCall) → stepOfWorker (renumber m) (renumberWorker c) ≡ renumberDone (stepOfWorker m c)
+    worker-step-renumber m c =
+        let d = workerMove c (workerView m c) in
+        let sees : workerView (renumber m) (renumberWorker c) ≡ renumberWorkerView (workerView m c) =
+        rw (worker-blind loads (λ x. refl) (λ x. refl) c, worker-loads-renumber m (loads c), tail-renumber m) in
+        let does : performWorker (renumber m) (renumberWorkerMove d) ≡ renumberDone (performWorker m d) = rw (push-renumber (d .push) (m .buffer)) in
+        ap (λ v. performWorker (renumber m) (workerMove (renumberWorker c) v)) sees ∙ ap (performWorker (renumber m)) (work-renumber c (workerView m c)) ∙ does
 
+    thief-step-renumber : (i : ℕ) (m : Machine) (c : ThiefCall)
+        → stepOfThief i (renumber m) (renumberSteal c) ≡ renumberDone (stepOfThief i m c)
+    thief-step-renumber i m c =
+        let d = thiefMove c (thiefView m i c) in
+        let sees : thiefView (renumber m) i (renumberSteal c) ≡ renumberThiefView (thiefView m i c) =
+        rw (thief-blind thiefLoads (λ x. refl) c, thief-loads-renumber m (thiefLoads c)) in
+        let does : performThief i (renumber m) (renumberThiefMove d) ≡ renumberDone (performThief i m d) =
+        rw (map-set renumberThief (m .thieves) i (record { call = d .call })) in
+        ap (λ v. performThief i (renumber m) (thiefMove (renumberSteal c) v)) sees ∙ ap (performThief i (renumber m)) (steal-renumber c (thiefView m i c)) ∙ does
+
+    -- each entry, each list
     obey-in-range-renumber : (m : Machine) (e : Entry) → obeyInRange (renumber m) (renumberEntry f e) ≡ renumberDone (obeyInRange m e)
     obey-in-range-renumber m Drain = drain-renumber m
-    obey-in-range-renumber m ClientStore = unless-renumber m _ (push-renumber (λ n. done Moved (countedStore n)) (λ n. refl) clientStore m)
+    obey-in-range-renumber m ClientStore = unless-renumber m _ (rw (push-renumber (One Client) (m .buffer)) (cond-map renumberDone (hasRoom m) refl refl))
     obey-in-range-renumber m (BeginPut x) = unless-renumber m (workerGoesOn (PutLoadHead x) m) refl
-    obey-in-range-renumber m BeginTake = unless-renumber m _ (cond-map renumberDone (tooEarly m) refl refl)
-    obey-in-range-renumber m WorkerStep = work-renumber m (m .worker .call)
+    obey-in-range-renumber m BeginTake = unless-renumber m _ (cond-map renumberDone (tooEarly (m .spacing) (m .sizes .spacing)) refl refl)
+    obey-in-range-renumber m WorkerStep = worker-step-renumber m (m .worker .call)
     obey-in-range-renumber m (BeginSteal i) =
         rw (thief-call-renumber m i, thief-blind thiefRuns (λ x. refl) (thiefCall m i))
         (cond-map renumberDone (thiefRuns (thiefCall m i)) refl (thief-renumber Moved i StealLock m))
-    obey-in-range-renumber m (ThiefStep i) = rw (thief-call-renumber m i) (steal-renumber i m (thiefCall m i))
+    obey-in-range-renumber m (ThiefStep i) = rw (thief-call-renumber m i) (thief-step-renumber i m (thiefCall m i))
 
     obey-renumber : (m : Machine) (e : Entry) → obey (renumber m) (renumberEntry f e) ≡ renumberDone (obey m e)
     obey-renumber m e =

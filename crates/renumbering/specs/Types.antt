@@ -4,16 +4,23 @@ pub use Rattle.terms.specs.declared.entry.Entry.the-variants.{Drain, ClientStor
 pub use Rattle.terms.specs.declared.outcome.Outcome.{Outcome}
 pub use Rattle.terms.specs.declared.outcome.Outcome.the-variants.{Moved, Place, Early, Wait, Stored, Task, Empty, Abort, Full, End}
 pub use Rattle.terms.specs.declared.sizes.Sizes.{Sizes}
-pub use Rattle.machine.specs.declared.index.Index.{Index}
+pub use Rattle.stores.specs.declared.index.Index.{Index}
+pub use Rattle.stores.specs.declared.index.Load.{Load}
+pub use Rattle.stores.specs.declared.index.Load.the-variants.{NoSlot, SlotOf}
 pub use Rattle.machine.specs.declared.machine.Done.{Done}
-pub use Rattle.machine.specs.declared.machine.Holder.the-variants.{Nobody, TheThief}
 pub use Rattle.machine.specs.declared.machine.Machine.{Machine}
-pub use Rattle.machine.specs.declared.store_buffer.Store.{Store}
-pub use Rattle.machine.specs.declared.store_buffer.StoreBuffer.{StoreBuffer}
-pub use Rattle.machine.specs.declared.store_buffer.StoreKind.{StoreKind}
-pub use Rattle.machine.specs.declared.store_buffer.StoreKind.the-variants.{Client, Tail, Slot}
+pub use Rattle.stores.specs.declared.store_buffer.Store.{Store}
+pub use Rattle.stores.specs.declared.store_buffer.StoreBuffer.{StoreBuffer}
+pub use Rattle.stores.specs.declared.store_buffer.StoreKind.{StoreKind}
+pub use Rattle.stores.specs.declared.store_buffer.StoreKind.the-variants.{Client, Tail, Slot}
+pub use Rattle.stores.specs.declared.store_buffer.Push.{Push}
+pub use Rattle.stores.specs.declared.store_buffer.Push.the-variants.{Nothing, One}
 pub use Rattle.machine.specs.declared.thief.Thief.{Thief}
 pub use Rattle.machine.specs.declared.thief.ThiefCall.{ThiefCall}
 pub use Rattle.machine.specs.declared.thief.ThiefCall.the-variants.{StealLock, StealLoadHead, StealRaiseHead, StealLoadTail, StealLoadSlot, StealUnlockTask, StealRestoreHead, StealUnlockAbort}
+pub use Rattle.machine.specs.declared.thief.ThiefView.{ThiefView}
+pub use Rattle.machine.specs.declared.thief.ThiefMove.{ThiefMove}
 pub use Rattle.machine.specs.declared.worker.WorkerCall.{WorkerCall}
 pub use Rattle.machine.specs.declared.worker.WorkerCall.the-variants.{PutLoadHead, PutStoreSlot, PutStoreTail, TakeStoreTail, TakeLoadHead, TakeLoadSlot, TakeLock, TakeReloadHead, TakeRestoreTail, TakeUnlockEmpty, TakeUnlockTask, TakeLoadLastSlot}
+pub use Rattle.machine.specs.declared.worker.WorkerView.{WorkerView}
+pub use Rattle.machine.specs.declared.worker.WorkerMove.{WorkerMove}

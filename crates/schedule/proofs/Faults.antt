@@ -1,4 +1,4 @@
--- What is refused has the fault that is told, and what has a fault is refused: by the reader, and where a file is run.
+-- What is refused has the fault that is given, and what has a fault is refused: by the reader, and where a file is run.
 use mathlib.Core.Path.{_≡_, refl, ap, sym, _∙_}
 use mathlib.Core.Bool.{Bool, true, false, cond, not, _&&_, _||_, false≢true}
 use mathlib.Core.List.{List}
@@ -22,7 +22,7 @@ use Rattle.schedule.specs.Trace.{traceLength, traceOf}
 use Rattle.schedule.proofs.Laws.Reader.{accepted-readable, refused-reading}
 use Rattle.schedule.proofs.Laws.Run.{not-both-run}
 use Rattle.schedule.proofs.Laws.Check.{failIf-failed, not-both}
-use Rattle.schedule.proofs.Laws.Check.{ranges-failed, ranges-passed, upTo-failed}
+use Rattle.schedule.proofs.Laws.Check.{ranges-failed, ranges-passed, range-failed}
 use Rattle.schedule.proofs.Laws.Entries.{entries-passed, entry-passed, entryAt-check}
 use Rattle.schedule.proofs.Laws.Format.{length-kindsIn, length-operandsIn}
 
@@ -57,7 +57,7 @@ module _ (s : Sizes) (entries : ℕ) (kinds operands : List ℕ) (long : length 
   pub entries-fault : (r : Refusal) → ((at : ℕ) → at < length kinds → length operands ≤ at → wrongLength ≡ true)
       → checkEntries (s .thieves) kinds operands ≡ Failed r → hasFault s entries kinds operands wrongLength noRoom r ≡ true
   entries-fault r ends e =
-      let found = upTo-failed (λ at. checkOf (entryAt (s .thieves) kinds operands at)) (length kinds) r e in
+      let found = range-failed (λ at. checkOf (entryAt (s .thieves) kinds operands at)) (length kinds) r e in
       entry-fault r ends (found .0) (found .1 .0) (found .1 .1)
 
   -- what passed every check has no fault

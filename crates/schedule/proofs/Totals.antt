@@ -9,7 +9,7 @@ use borrow.Author.Tests.{le-leb, leb-true, ltb-false, ltb-true}
 use Rattle.terms.specs.Outcome.{numberOf}
 use Rattle.terms.specs.Tally.{counted, countedIf, noneCounted}
 use Rattle.terms.proofs.Laws.Tests.{by-test, decide, eqb-comm}
-use Rattle.machine.specs.Lists.{occurrences}
+use Rattle.terms.specs.Lists.{occurrences}
 use Rattle.schedule.specs.Types.{Outcome, Tally}
 use Rattle.schedule.specs.Totals.{TotalsCount, countedFrom}
 

@@ -1,12 +1,14 @@
--- Demand 3 of a trace that was written: with enough margin, the answers in its bytes are those of the plain queue. The claim itself, and the plain queue, are the lower library's (`Linearizable`, `PlainQueue`). `run` promises it.
+-- Demand 3 of a trace that was written: with enough margin, the answers in its bytes are those of the plain queue. The claim itself, and the plain queue, are those of `claim`; what they know of FF-THE is in `machine`. `run` promises it.
 use mathlib.Core.Path.{_≡_}
 use mathlib.Core.Bool.{true, cond}
 use mathlib.Core.List.{List, [], _∷_, map}
 use Prim.Native.Nat.{ℕ}
 use lib.Dec.{leb}
-use Rattle.machine.specs.Effect.{events, watchFresh}
-use Rattle.machine.specs.Linearizable.{Linearizable, answering, answersTo}
-use Rattle.machine.specs.Lists.{gather, upTo}
+use Rattle.claim.specs.Watch.{events, watchFresh}
+use Rattle.claim.specs.Calls.{answersTo}
+use Rattle.machine.specs.Linearizable.{ffThe}
+use Rattle.claim.specs.Linearizable.{Linearizable, answering}
+use Rattle.terms.specs.Lists.{concatMap, range}
 use Rattle.terms.specs.Sizes.{enoughMargin}
 use Rattle.schedule.specs.Types.{Entry, Ran, Running, Sizes, Tally}
 use Rattle.schedule.specs.Format.{entriesIn, sizesIn}
@@ -19,17 +21,17 @@ answerIn l = cond (leb 16 (l .number)) (l ∷ []) []
 
 -- the answers in the trace of so many entries, in their order
 abbrev pub answersIn : ℕ → List ℕ → List Line
-answersIn entries trace = gather (λ at. answerIn (lineIn entries trace at)) (upTo entries)
+answersIn entries trace = concatMap (λ at. answerIn (lineIn entries trace at)) (range entries)
 
 -- for each call that has answered, in the order of the answers, what the plain queue answered to it
 abbrev pub plainAnswers : Sizes → List Entry → List (List Line)
-plainAnswers s es = map (λ v. map lineOf (answersTo (v .call))) (answering (events (watchFresh s) es))
+plainAnswers s es = map (λ v. map lineOf (answersTo (v .call))) (answering (events ffThe (watchFresh ffThe s) es))
 
 pub record TraceLinearizes (s : Sizes) (es : List Entry) (entries : ℕ) (trace : List ℕ) : Type 0 where
   -- each answer in the bytes, number and value, is the plain queue's one answer to that call
   pub answers : map (λ l. l ∷ []) (answersIn entries trace) ≡ plainAnswers s es
   -- and of the list of entries all of demand 3 is true, so that no task is lost or given twice
-  pub linearizable : Linearizable s es
+  pub linearizable : Linearizable ffThe s es
 
 -- a file that was run, with enough margin
 abbrev pub RunLinearizes : List ℕ → List ℕ → Running → Type 0

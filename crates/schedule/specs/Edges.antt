@@ -8,7 +8,7 @@ use lib.ListN.{length, replicate, take}
 use Rattle.terms.specs.declared.kinds.Meaning.the-variants as meaning
 use Rattle.terms.specs.Refusal.{numberOf, placeOf}
 use Rattle.terms.specs.Kinds.{entryOf, kindOf, operandOf}
-use Rattle.machine.specs.Lists.{upFrom}
+use Rattle.terms.specs.Lists.{rangeFrom}
 use Rattle.schedule.specs.Types.{Accepted, Allowed, Meaning, Reading, Refusal, Sizes}
 use Rattle.schedule.specs.Types.{BeginPut, BeginSteal, BeginTake, ClientStore, Drain, Entry, ThiefStep, WorkerStep}
 use Rattle.schedule.specs.declared.reader.Reading.the-variants as reading
@@ -112,7 +112,7 @@ differentFile = 0 ∷ 1 ∷ 0 ∷ 0 ∷ 33 ∷ 0 ∷ 0 ∷ 0 ∷ 2 ∷ 0 ∷ 0 �
 abbrev pub alone : Sizes → Row
 alone s = accepts (sizeBytes s 0) s [] []
 
--- a size out of its range is told, whether the file has the right length or not (where the entries are too many, neither has)
+-- a size out of its range is given as the fault, whether the file has the right length or not (where the entries are too many, neither has)
 abbrev pub outOfRange : Sizes → ℕ → ℕ → List Row
 outOfRange s entries place = refuses (sizeBytes s entries) 1 place ∷ refuses (sizeBytes s entries ++ (0 ∷ [])) 1 place ∷ []
 
@@ -197,7 +197,7 @@ entries =
     ∷ noEntry 2 (0 ∷ []) (0 ∷ 0 ∷ 0 ∷ []) 0 2 0
     ∷ noEntry 2 (7 ∷ []) [] 0 2 0
     -- every byte above 6
-    ∷ map (λ kind. noEntry 8 (0 ∷ kind ∷ []) (replicate 8 0) 1 3 1) (upFrom 7 249)
+    ∷ map (λ kind. noEntry 8 (0 ∷ kind ∷ []) (replicate 8 0) 1 3 1) (rangeFrom 7 249)
 
 abbrev pub edges : List Row
 edges = lengths ++ sizes ++ entries

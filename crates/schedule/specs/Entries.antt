@@ -4,7 +4,7 @@ use mathlib.Core.List.{List, map}
 use Prim.Native.Nat.{ℕ}
 use lib.Dec.{ltb}
 use lib.ListN.{length, getD}
-use Rattle.machine.specs.Lists.{upTo}
+use Rattle.terms.specs.Lists.{range}
 use Rattle.terms.specs.Kinds.{entryOf}
 use Rattle.terms.specs.declared.kinds.Meaning.the-variants as meaning
 use Rattle.schedule.specs.Types.{Allowed, Check, Failed, Meaning, Passed, Short}
@@ -22,4 +22,4 @@ checkOf (meaning.Refused r) = Failed r
 
 -- all entries: the first faulty one decides
 abbrev pub checkEntries : ℕ → List ℕ → List ℕ → Check
-checkEntries thieves kinds operands = first (map (λ at. checkOf (entryAt thieves kinds operands at)) (upTo (length kinds)))
+checkEntries thieves kinds operands = first (map (λ at. checkOf (entryAt thieves kinds operands at)) (range (length kinds)))

@@ -6,7 +6,7 @@ use mathlib.Core.List.{List, [], _∷_, _++_}
 use Prim.Native.Nat.{ℕ, _+_, _*_, _/_}
 use lib.Dec.{ltb}
 use lib.ListN.{length, drop, getD, replicate, take}
-use Rattle.machine.specs.Lists.{all}
+use Rattle.terms.specs.Lists.{all}
 use Rattle.schedule.specs.Types.{Sizes}
 use Rattle.number.specs.Number.{littleEndian, ofBytes}
 

@@ -23,7 +23,7 @@ abbrev pub readingOf : List ℕ → Check → Reading
 readingOf file Passed = Accepted (sizesIn file) (entriesIn file)
 readingOf file (Failed r) = reading.Refused r
 
--- what reading a file comes to: its sizes and the number of its entries, or the refusal
+-- the reader's answer: its sizes and the number of its entries, or the refusal
 abbrev pub readFile : List ℕ → Reading
 readFile file = readingOf file (first (readingChecks file))
 

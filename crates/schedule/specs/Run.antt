@@ -8,7 +8,7 @@ use lib.ListN.{length}
 use Rattle.terms.specs.declared.kinds.Meaning.the-variants as meaning
 use Rattle.terms.specs.Kinds.{kindOf, operandOf}
 use Rattle.terms.specs.Tally.{counted, noneCounted}
-use Rattle.machine.specs.Lists.{gather, upTo}
+use Rattle.terms.specs.Lists.{concatMap, range}
 use Rattle.machine.specs.Machine.{fresh}
 use Rattle.machine.specs.Obey.{machineAfter, obey, outcomesOf}
 use Rattle.schedule.specs.Types.{Accepted, Allowed, Entry, Machine, Meaning, Outcome, Ran, Reading, Room, Running, Sizes, Stepped, Tally}
@@ -45,13 +45,13 @@ entryMeant (meaning.Refused r) = []
 
 -- the entries of two parallel arrays, in their order
 abbrev pub entriesOf : ℕ → List ℕ → List ℕ → List Entry
-entriesOf thieves kinds operands = gather (λ at. entryMeant (entryAt thieves kinds operands at)) (upTo (length kinds))
+entriesOf thieves kinds operands = concatMap (λ at. entryMeant (entryAt thieves kinds operands at)) (range (length kinds))
 
 -- the entries of a file
 abbrev pub scheduleIn : List ℕ → List Entry
 scheduleIn file = entriesOf (sizesIn file .thieves) (kindsIn (entriesIn file) file) (operandsIn (entriesIn file) file)
 
--- what they come to, obeyed one by one from the fresh machine
+-- their outcomes, obeyed one by one from the fresh machine
 abbrev pub outcomesIn : List ℕ → List Outcome
 outcomesIn file = outcomesOf (fresh (sizesIn file)) (scheduleIn file)
 
@@ -62,7 +62,7 @@ abbrev pub runningOf : List ℕ → ℕ → Reading → Running
 runningOf file room (reading.Refused r) = running.Refused r
 runningOf file room (Accepted s entries) = cond (ltb room (traceLength entries)) (running.Refused Room) (Ran (tallyOf (outcomesIn file)))
 
--- what running a file comes to, with a trace buffer of so many bytes: the totals, or the refusal
+-- the answer of running a file, with a trace buffer of so many bytes: the totals, or the refusal
 abbrev pub runFile : List ℕ → ℕ → Running
 runFile file room = runningOf file room (readFile file)
 

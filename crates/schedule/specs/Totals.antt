@@ -4,7 +4,7 @@ use mathlib.Core.Bool.{cond}
 use mathlib.Core.List.{List, [], _∷_, map}
 use Prim.Native.Nat.{ℕ}
 use lib.Dec.{leb}
-use Rattle.machine.specs.Lists.{occurrences}
+use Rattle.terms.specs.Lists.{occurrences}
 use Rattle.terms.specs.Outcome.{numberOf}
 use Rattle.terms.specs.Tally.{counted, noneCounted}
 use Rattle.schedule.specs.Types.{Outcome, Tally}

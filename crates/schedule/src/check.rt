@@ -4,7 +4,7 @@ use terms::Refusal;
 use terms::SizeCheck;
 use terms::Sizes;
 
-// What a check comes to.
+// The answer of a check.
 pub enum Check {
     Passed,
     Failed(Refusal),

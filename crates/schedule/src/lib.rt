@@ -13,7 +13,7 @@
 // sizes and the lengths of a file's parts. Sizes, entries with their kinds, outcomes, refusals and totals are those of the
 // library `terms`. No function here asks anything of its caller. Reading order:
 //
-// - `check`: what a check comes to, and the check of the sizes;
+// - `check`: the answer of a check, and the check of the sizes;
 // - `layout`: the lengths of a file's parts, and of the longest trace;
 // - `entries`: one entry, and the first faulty one;
 // - `reader`: a file as a whole;

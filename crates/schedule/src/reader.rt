@@ -12,7 +12,7 @@ use number::word_at;
 use terms::Refusal;
 use terms::Sizes;
 
-// What reading a file comes to.
+// The reader's answer.
 pub enum Reading {
     // The file is a schedule: its first six sizes, and how many entries it has.
     Accepted(Sizes, usize),

@@ -35,11 +35,11 @@ pub struct Stepped {
     pub machine: Machine,
     // The totals, the entry's outcome among them.
     pub tally: Tally,
-    // What the entry came to.
+    // The entry's outcome.
     pub outcome: Outcome,
 }
 
-// What running a file comes to.
+// The answer of running a file.
 pub enum Running {
     // Every entry has its outcome, and the trace stands at the front of the buffer.
     Ran(Tally),

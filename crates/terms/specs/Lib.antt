@@ -5,9 +5,11 @@
 -- refusals, their numbers and places    Refusal
 -- kinds, operands; KIND and WHO         Kinds
 -- the three totals                      Tally
+-- tests and sums over lists             Lists
 pub mod Types
 pub mod Sizes
 pub mod Outcome
 pub mod Refusal
 pub mod Kinds
 pub mod Tally
+pub mod Lists

@@ -1,4 +1,4 @@
--- What an entry comes to, in the paper's numbers. Renders "The numbers, by who can cause them", as far as one entry goes, and the
+-- The outcome of an entry, in the paper's numbers. Renders "The numbers, by who can cause them", as far as one entry goes, and the
 -- sentence on the trace's outcomes and values.
 use mathlib.Core.Bool.{Bool, _&&_}
 use Prim.Native.Nat.{ℕ}

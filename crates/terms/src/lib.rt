@@ -1,13 +1,13 @@
 // The terms that the libraries above share: the paper's tables, as plain data with total functions. They are the sizes of a
-// schedule, its entries, what an entry can come to, why a file is refused, and the totals of a run, in the paper's numbers.
+// schedule, its entries, the outcomes of an entry, why a file is refused, and the totals of a run, in the paper's numbers.
 // No function here asks anything of its caller. Reading order:
 //
 // - `sizes`: the six sizes of a schedule, their ranges, and the margin;
 // - `entry`: the seven kinds of entry;
-// - `outcome`: what an entry comes to, with its number and value in a trace;
+// - `outcome`: the outcome of an entry, with its number and value in a trace;
 // - `refusal`: why a file is refused, with number and place;
 // - `kinds`: what a kind byte and its operand mean: an entry, or a refusal;
-// - `tally`: how many entries came to three of the outcomes; an outcome is counted by value, or in a tally that is lent.
+// - `tally`: how many entries had each of three outcomes; an outcome is counted by value, or in a tally that is lent.
 mod entry;
 mod kinds;
 mod outcome;

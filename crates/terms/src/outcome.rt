@@ -1,7 +1,7 @@
 ghost use mathlib.Core.Path.{_≡_};
 ghost use Rattle.terms.specs.Outcome.{numberOf, valueOf};
 
-// What an entry comes to.
+// The outcome of an entry.
 pub enum Outcome {
     // A step was made, and the call goes on; or a drain, a client store or a beginning.
     Moved,

@@ -1,6 +1,6 @@
 ghost use mathlib.Core.Path.{_≡_};
 ghost use mathlib.Core.Bool.{cond};
-ghost use Rattle.terms.specs.Sizes.{checkSizes, marginInUse, neededMargin, within};
+ghost use Rattle.terms.specs.Sizes.{checkSizes, marginInUse, neededMargin, sizesInRange, within};
 
 // The first six sizes of a schedule, as its file has them. The margin may be 0 here; `margin_in_use` says what that is.
 pub struct Sizes {
@@ -72,5 +72,16 @@ impl Sizes {
         let spacing = first_fault(2, 0, 63, self.spacing, margin);
         let buffer = first_fault(1, 1, 64, self.buffer, spacing);
         first_fault(0, 2, 256, self.slots, buffer)
+    }
+
+    // Whether every size is in its range.
+    pub fn in_range(self) -> bool
+        ensures { λ r. ⌜ r ≡ sizesInRange self ⌝ }
+    {
+        let found = self.check();
+        match found {
+            SizeCheck::AllInRange => true,
+            SizeCheck::OutOfRange(_) => false,
+        }
     }
 }

@@ -2,7 +2,7 @@ ghost use mathlib.Core.Path.{_≡_};
 ghost use Rattle.terms.specs.Tally.{counted, countedIf, noneCounted};
 use crate::outcome::Outcome;
 
-// How many entries came to three of the outcomes. A total that has reached the largest number stays there.
+// How many entries had each of three outcomes. A total that has reached the largest number stays there.
 pub struct Tally {
     // TASK: a task was handed out.
     pub given: u32,

@@ -1,4 +1,4 @@
--- What the writer refuses has the fault that is told, what has a fault it refuses, and of what it refuses it writes nothing.
+-- What the writer refuses has the fault that is given, what has a fault it refuses, and of what it refuses it writes nothing.
 use mathlib.Core.Path.{_≡_, refl, ap, sym}
 use mathlib.Core.Bool.{true, false, not}
 use mathlib.Core.List.{List}

@@ -15,7 +15,7 @@ use Rattle.writer.specs.Writer.{bufferAfter, writeFile}
 -- ── Rows ────────────────────────────────────────────────────────────────────────────────────────────────────────────────────
 
 pub data Row : Type 0 where
-  -- what is written into a buffer of so many bytes, what the buffer holds afterwards, and how many bytes are told
+  -- what is written into a buffer of so many bytes, what the buffer holds afterwards, and how many bytes are answered
   writes : Sizes → (kinds operands : List ℕ) (room : ℕ) (after : List ℕ) (bytes : ℕ) → Row
   -- what is not written, with number and place; the buffer, of so many bytes, holds what it held
   declines : Sizes → (kinds operands : List ℕ) (room number place : ℕ) → Row

@@ -27,7 +27,7 @@ abbrev pub writingOf : ℕ → Check → Writing
 writingOf n Passed = Written n
 writingOf n (Failed r) = writing.Refused r
 
--- what writing comes to: how many bytes the file has, or the refusal
+-- the writer's answer: how many bytes the file has, or the refusal
 abbrev pub writeFile : Sizes → List ℕ → List ℕ → ℕ → Writing
 writeFile s kinds operands room = writingOf (fileLength (length kinds)) (checkWriting s kinds operands room)
 

@@ -14,7 +14,7 @@ use schedule::check_ranges;
 use terms::Refusal;
 use terms::Sizes;
 
-// What writing a file comes to.
+// The writer's answer.
 pub enum Writing {
     // The file stands at the front of the buffer, and has so many bytes.
     Written(usize),

@@ -11,8 +11,8 @@ use borrow.Author.Tests.{eq-eqb, eqb-true}
 use Rattle.terms.specs.declared.outcome.Outcome.the-variants.{Moved}
 use Rattle.terms.specs.Outcome.{isAnswer}
 use Rattle.terms.specs.Kinds.{kindOf, operandOf}
-use Rattle.terms.proofs.Laws.Tests.{both-left, both-right}
-use Rattle.machine.specs.Lists.{all, gather, upFrom, upTo}
+use Rattle.terms.proofs.Laws.Tests.{and-left, and-right}
+use Rattle.terms.specs.Lists.{all, concatMap, rangeFrom, range}
 use Rattle.comparison.specs.Types.{BeginPut, BeginSteal, BeginTake, ClientStore, Drain, Entry, Outcome, Sizes, ThiefStep, WorkerStep, Accepted}
 use Rattle.schedule.specs.Format.{allBelow, entriesIn, kindsIn, operandsIn, sizesIn}
 use Rattle.schedule.specs.Trace.{Line, lineIn, lineOf, traceOf}
@@ -58,10 +58,10 @@ module _ (party n : ℕ) (file trace : List ℕ) where
       (λ i. leb 16 (told .2 i .number) && eqb (partyIn (told .0 i) (told .1 i)) party)
       ∙ ap (λ k. isAnswer o && eqb k party) (party-of-entry e)
 
-  -- from a place on, where the entries and the outcomes from there on are told
+  -- from a place on, where the entries and the outcomes from there on are known
   answers-from : (es : List Entry) (os : List Outcome) (at : ℕ) → length es ≡ length os
       → ((i k : ℕ) → k ≡ at + i → i < length es → Told n file trace k (getD es i Drain) (getD os i Moved))
-      → gather answer-at (upFrom at (length es)) ≡ answersFor party es os
+      → concatMap answer-at (rangeFrom at (length es)) ≡ answersFor party es os
   answers-from [] os at long each = refl
   answers-from (e ∷ es) [] at long each = absurd (suc-ne-zero (length es) long)
   answers-from (e ∷ es) (o ∷ os) at long each =
@@ -76,7 +76,7 @@ pub lines-of-run : (party n : ℕ) (file : List ℕ) (es : List Entry) (os : Lis
     → linesFrom party n file trace 0 ≡ answersFor party es os
 lines-of-run party n file es os trace long other-long each =
     let whole : n - 0 ≡ length es = omega arith in
-    ap (λ k. gather (answer-at party n file trace) (upFrom 0 k)) whole
+    ap (λ k. concatMap (answer-at party n file trace) (rangeFrom 0 k)) whole
     ∙ answers-from party n file trace es os 0 (long ∙ sym other-long)
     (λ i k p h. let same : k ≡ i = omega arith in subst (λ j. Told n file trace j (getD es i Drain) (getD os i Moved)) (sym same) (each i (omega arith)))
 
@@ -116,7 +116,7 @@ pub same-answers : (thieves n : ℕ) (file trace : List ℕ) (m : ℕ) (other ot
     → ((party : ℕ) → linesFrom party n file trace 0 ≡ answersOf party file)
     → ((party : ℕ) → linesFrom party m other other-trace 0 ≡ answersOf party other)
     → sameForAll thieves n file trace m other other-trace ≡ sameAnswers thieves file other
-same-answers thieves n file trace m other other-trace p q = λ i. all (λ party. sameLines (p party i) (q party i)) (upTo (thieves + 1))
+same-answers thieves n file trace m other other-trace p q = λ i. all (λ party. sameLines (p party i) (q party i)) (range (thieves + 1))
 
 -- ── The tests are equality ──────────────────────────────────────────────────────────────────────────────────────────────────
 
@@ -124,8 +124,8 @@ same-answers thieves n file trace m other other-trace p q = λ i. all (λ party.
 
 same-line : (x y : Line) → sameLine x y ≡ true → x ≡ y
 same-line x y e =
-    let number = eqb-true (x .number) (y .number) (both-left (eqb (x .number) (y .number)) (eqb (x .value) (y .value)) e) in
-    let value = eqb-true (x .value) (y .value) (both-right (eqb (x .number) (y .number)) (eqb (x .value) (y .value)) e) in
+    let number = eqb-true (x .number) (y .number) (and-left (eqb (x .number) (y .number)) (eqb (x .value) (y .value)) e) in
+    let value = eqb-true (x .value) (y .value) (and-right (eqb (x .number) (y .number)) (eqb (x .value) (y .value)) e) in
     λ i. record { number = number i; value = value i }
 
 line-same : (x : Line) → sameLine x x ≡ true
@@ -136,8 +136,8 @@ same-lines [] [] e = refl
 same-lines [] (y ∷ m) e = absurd (false≢true e)
 same-lines (x ∷ l) [] e = absurd (false≢true e)
 same-lines (x ∷ l) (y ∷ m) e =
-    let first = same-line x y (both-left (sameLine x y) (sameLines l m) e) in
-    let rest = same-lines l m (both-right (sameLine x y) (sameLines l m) e) in
+    let first = same-line x y (and-left (sameLine x y) (sameLines l m) e) in
+    let rest = same-lines l m (and-right (sameLine x y) (sameLines l m) e) in
     λ i. first i ∷ rest i
 
 lines-same : (l : List Line) → sameLines l l ≡ true
@@ -151,7 +151,7 @@ equal-lines l m e = subst (λ k. sameLines l k ≡ true) e (lines-same l)
 
 -- tests one behind the other, the last of which is of two numbers
 and-equal : (b : Bool) (j k : ℕ) → (b && eqb j k) ≡ true → (b ≡ true) × (j ≡ k)
-and-equal b j k e = (both-left b (eqb j k) e, eqb-true j k (both-right b (eqb j k) e))
+and-equal b j k e = (and-left b (eqb j k) e, eqb-true j k (and-right b (eqb j k) e))
 
 pub same-sizes : (s t : Sizes) → sameSizes s t ≡ true → s ≡ t
 same-sizes s t e =

@@ -11,9 +11,9 @@ use lib.ListN.{length, drop, getD, take}
 use lib.Seq.{drop-drop, getD-drop, getD-take}
 use borrow.Author.Tests.{eq-eqb, eqb-false, eqb-true, le-leb, lt-leb, ne-eqb}
 use Rattle.terms.proofs.Laws.Tests.{decide}
-use Rattle.machine.specs.Lists.{all, gather, upFrom, upTo}
-use Rattle.machine.proofs.Laws.Lists.{all-snoc, all-upTo}
-use Rattle.machine.proofs.Laws.Sums.{upTo-suc}
+use Rattle.terms.specs.Lists.{all, concatMap, rangeFrom, range}
+use Rattle.terms.proofs.Laws.Lists.{all-snoc, all-range}
+use Rattle.terms.proofs.Laws.Sums.{range-suc}
 use Rattle.comparison.specs.Alike.{sameLine, sameLines}
 use Rattle.comparison.specs.Comparison.{answered, firstFrom, linesFrom, partyIn, sameFor}
 use Rattle.schedule.specs.Format.{kindsIn, operandsIn}
@@ -124,7 +124,7 @@ module _ (test : ℕ → Bool) where
 -- what a function gives at the places, of so many from a given one on, at which a test passes
 module _ {A : Type 0} (test : ℕ → Bool) (f : ℕ → A) where
   abbrev passing : ℕ → ℕ → List A
-  passing at more = gather (λ i. cond (test i) (f i ∷ []) []) (upFrom at more)
+  passing at more = concatMap (λ i. cond (test i) (f i ∷ []) []) (rangeFrom at more)
 
   passing-here : (end at : ℕ) → at < end → test at ≡ true → passing at (end - at) ≡ f at ∷ passing (suc at) (end - suc at)
   passing-here end at h e =
@@ -192,7 +192,7 @@ module _ (party n : ℕ) (file trace : List ℕ) (m : ℕ) (other other-trace : 
   abbrev same : Bool
   same = sameFor n file trace m other other-trace party
 
-  -- Two places that a comparison has come to: the search rests at both, and what is left from there on decides.
+  -- Two places that a comparison has reached: the search rests at both, and what is left from there on decides.
   pub record Compared (at there : ℕ) : Type 0 where
     pub rests : AtAnswer party n file trace at
     pub other-rests : AtAnswer party m other other-trace there

@@ -12,10 +12,10 @@ use borrow.Author.Tests.{ltb-true}
 use Rattle.terms.specs.Refusal.{placeOf}
 use Rattle.terms.specs.declared.outcome.Outcome.the-variants.{Moved}
 use Rattle.terms.specs.declared.refusal.Refusal.the-variants.{Size, Short, Kind, Who, Room}
-use Rattle.terms.proofs.Laws.Tests.{both-left}
-use Rattle.machine.specs.Lists.{gather, upFrom}
+use Rattle.terms.proofs.Laws.Tests.{and-left}
+use Rattle.terms.specs.Lists.{concatMap, rangeFrom}
 use Rattle.machine.specs.Machine.{fresh}
-use Rattle.machine.proofs.Laws.Lists.{all-getD}
+use Rattle.terms.proofs.Laws.Lists.{all-getD}
 use Rattle.number.specs.Number.{overwritten}
 use Rattle.schedule.specs.declared.reader.Reading.the-variants as reading
 use Rattle.schedule.specs.Check.{sizesKept}
@@ -35,13 +35,13 @@ use Rattle.lines.specs.Lines.{entryLine, entryLines}
 -- ── The lines of the entries ────────────────────────────────────────────────────────────────────────────────────────────────
 
 -- lines that are gathered by the numbers of the entries, each that of its outcome, are the lines of the outcomes
-gather-lines : (f : ℕ → List ℕ) (os : List Outcome) (k : ℕ)
-    → ((i : ℕ) → i < length os → f (k + i) ≡ entryLine (k + i) (getD os i Moved)) → gather f (upFrom k (length os)) ≡ entryLines k os
-gather-lines f [] k same = refl
-gather-lines f (o ∷ os) k same =
+concatMap-lines : (f : ℕ → List ℕ) (os : List Outcome) (k : ℕ)
+    → ((i : ℕ) → i < length os → f (k + i) ≡ entryLine (k + i) (getD os i Moved)) → concatMap f (rangeFrom k (length os)) ≡ entryLines k os
+concatMap-lines f [] k same = refl
+concatMap-lines f (o ∷ os) k same =
     let first : f k ≡ entryLine k o = rw add-zero at (same 0 (zero-lt-suc (length os))) in
     let next : (i : ℕ) → k + suc i ≡ suc k + i = λ i. omega arith in
-    let others = gather-lines f os (suc k) (λ i there. rw (next i) at (same (suc i) (suc-le-suc there))) in
+    let others = concatMap-lines f os (suc k) (λ i there. rw (next i) at (same (suc i) (suc-le-suc there))) in
     λ i. first i ++ (others ∙ ap (λ j. entryLines j os) (sym (add-one k))) i
 
 -- the lines of all entries, from the trace of an accepted file
@@ -52,7 +52,7 @@ trace-lines file l s n accepted bytes =
     let trace = overwritten 0 (traceOf os) l in
     let as-many : length os ≡ n = length-outcomesOf (fresh (sizesIn file)) (scheduleIn file) ∙ schedule-length file s n accepted in
     ap (λ k. linesFromTrace k trace) (sym as-many)
-    ∙ gather-lines (lineFromTrace (length os) trace) os 0
+    ∙ concatMap-lines (lineFromTrace (length os) trace) os 0
     (λ i there. ap (λ k. lineFromTrace (length os) trace k) (zero-add i) ∙ ap (λ line. threeNumbers i (line .number) (line .value)) (lineIn-written os l i (file-values-fit file bytes) there) ∙ ap (λ k. entryLine k (getD os i Moved)) (sym (zero-add i)))
 
 -- ── The place of a refusal ──────────────────────────────────────────────────────────────────────────────────────────────────
@@ -71,7 +71,7 @@ pub place-fits : (file : List ℕ) → allBelow 256 file ≡ true → (r : Refus
 place-fits file bytes r told = go r (reader-refuses-faults file r .0 told)
   where
     of-entry : (at : ℕ) (b : Bool) → (ltb at (entriesIn file) && b) ≡ true → at < 4294967296
-    of-entry at b p = omega (arith, ltb-true at (entriesIn file) (both-left (ltb at (entriesIn file)) b p), entries-fit file bytes)
+    of-entry at b p = omega (arith, ltb-true at (entriesIn file) (and-left (ltb at (entriesIn file)) b p), entries-fit file bytes)
 
     go : (r : Refusal) → fileHas file r ≡ true → placeOf r < 4294967296
     go (Size place) p = omega (arith, inside (sizesKept (sizesIn file) (entriesIn file)) place p)

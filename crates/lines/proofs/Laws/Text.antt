@@ -10,9 +10,9 @@ use lib.Dec.{ltb}
 use lib.ListN.{length, getD, length-append, take}
 use lib.Seq.{take-suc}
 use borrow.Author.Tests.{ltb-true}
-use Rattle.terms.proofs.Laws.Tests.{both-left, both-right}
-use Rattle.machine.specs.Lists.{all, gather, upTo}
-use Rattle.machine.proofs.Laws.Sums.{gather-append, upTo-suc}
+use Rattle.terms.proofs.Laws.Tests.{and-left, and-right}
+use Rattle.terms.specs.Lists.{all, concatMap, range}
+use Rattle.terms.proofs.Laws.Sums.{concatMap-append, range-suc}
 use Rattle.number.specs.Number.{overwritten}
 use Rattle.number.proofs.Laws.Overwritten.{overwritten-behind, overwritten-nothing}
 use Rattle.lines.specs.Text.{ascii, line, units}
@@ -62,22 +62,22 @@ seven-words a b c d e f g = simp append-assoc
 -- ── What is gathered over places ────────────────────────────────────────────────────────────────────────────────────────────
 
 module _ {A : Type 0} (f : A → List ℕ) where
-  gather-snoc : (l : List A) (x : A) → gather f (l ++ (x ∷ [])) ≡ gather f l ++ f x
-  gather-snoc l x = gather-append f l (x ∷ []) ∙ ap (λ r. gather f l ++ r) (append-nil (f x))
+  concatMap-snoc : (l : List A) (x : A) → concatMap f (l ++ (x ∷ [])) ≡ concatMap f l ++ f x
+  concatMap-snoc l x = concatMap-append f l (x ∷ []) ∙ ap (λ r. concatMap f l ++ r) (append-nil (f x))
 
-  pub gather-more : (l : List A) (d : A) (k : ℕ) → k < length l → gather f (take (k + 1) l) ≡ gather f (take k l) ++ f (getD l k d)
-  gather-more l d k there = rw (add-one, take-suc l k d there) (gather-snoc (take k l) (getD l k d))
+  pub concatMap-more : (l : List A) (d : A) (k : ℕ) → k < length l → concatMap f (take (k + 1) l) ≡ concatMap f (take k l) ++ f (getD l k d)
+  concatMap-more l d k there = rw (add-one, take-suc l k d there) (concatMap-snoc (take k l) (getD l k d))
 
-pub gather-next : (f : ℕ → List ℕ) (n : ℕ) → gather f (upTo (n + 1)) ≡ gather f (upTo n) ++ f n
-gather-next f n = ap (gather f) (upTo-suc n) ∙ gather-snoc f (upTo n) n
+pub concatMap-next : (f : ℕ → List ℕ) (n : ℕ) → concatMap f (range (n + 1)) ≡ concatMap f (range n) ++ f n
+concatMap-next f n = ap (concatMap f) (range-suc n) ∙ concatMap-snoc f (range n) n
 
 -- ── Units ───────────────────────────────────────────────────────────────────────────────────────────────────────────────────
 
 -- no place counts nothing
 positive : (us : List ℕ) → all (λ unit. ltb 0 unit) us ≡ true → (k : ℕ) → k < length us → 0 < getD us k 0
 positive [] p k h = absurd (not-suc-le-zero h)
-positive (unit ∷ us) p zero h = ltb-true 0 unit (both-left (ltb 0 unit) (all (λ u. ltb 0 u) us) p)
-positive (unit ∷ us) p (suc k) h = positive us (both-right (ltb 0 unit) (all (λ u. ltb 0 u) us) p) k (le-of-suc-le-suc h)
+positive (unit ∷ us) p zero h = ltb-true 0 unit (and-left (ltb 0 unit) (all (λ u. ltb 0 u) us) p)
+positive (unit ∷ us) p (suc k) h = positive us (and-right (ltb 0 unit) (all (λ u. ltb 0 u) us) p) k (le-of-suc-le-suc h)
 
 pub unit-positive : (k : ℕ) → k < 10 → 0 < getD units k 0
 unit-positive k h = positive units refl k h

@@ -1,23 +1,31 @@
 -- What every entry does, whatever the machine: refused, it leaves the machine as it is; it keeps the sizes; it answers only at steps; and
 -- it waits where its thief is not there. One line for each step.
-use mathlib.Core.Path.{_≡_, refl, ap, sym, _∙_}
+use mathlib.Core.Path.{_≡_, refl, ap, sym, _∙_, subst}
 use mathlib.Core.Bool.{Bool, true, false, and-false, cond, not, _&&_, false≢true}
+use mathlib.Core.List.{List}
 use Prim.Native.Nat.{ℕ}
+use lib.Seq.{set-getD}
 use Rattle.terms.specs.Outcome.{isAnswer, isRefusal}
+use Rattle.terms.specs.Sizes.{marginInUse}
 use Rattle.terms.proofs.Laws.Tests.{either}
-use Rattle.machine.specs.Types.{Done, Entry, Drain, ClientStore, BeginPut, BeginTake, WorkerStep, BeginSteal, ThiefStep, Machine, Outcome, Moved, Wait, ThiefCall, StealLock, StealLoadHead, StealRaiseHead, StealLoadTail, StealLoadSlot, StealUnlockTask, StealRestoreHead, StealUnlockAbort, WorkerCall, PutLoadHead, PutStoreSlot, PutStoreTail, TakeStoreTail, TakeLoadHead, TakeLoadSlot, TakeLock, TakeReloadHead, TakeRestoreTail, TakeUnlockEmpty, TakeUnlockTask, TakeLoadLastSlot}
-use Rattle.machine.specs.Machine.{done, hasRoom, lockIsFree, nothingPending, thiefCall}
+use Rattle.stores.specs.Spacing.{tooEarly}
+use Rattle.claim.specs.Calls.{isStep, partyOf}
+use Rattle.claim.proofs.Lawful.{Lawful, isThere}
+use Rattle.machine.specs.Types.{Done, Entry, Drain, ClientStore, BeginPut, BeginTake, WorkerStep, BeginSteal, ThiefStep, Machine, Outcome, Moved, Place, Wait, Sizes, Thief, ThiefCall, StealLock, StealLoadHead, StealRaiseHead, StealLoadTail, StealLoadSlot, StealUnlockTask, StealRestoreHead, StealUnlockAbort, WorkerCall, PutLoadHead, PutStoreSlot, PutStoreTail, TakeStoreTail, TakeLoadHead, TakeLoadSlot, TakeLock, TakeReloadHead, TakeRestoreTail, TakeUnlockEmpty, TakeUnlockTask, TakeLoadLastSlot, ThiefMove, WorkerMove}
+use Rattle.machine.specs.Machine.{done, hasRoom, lockIsFree, nothingPending, thiefCall, thiefTail}
 use Rattle.machine.specs.InRange.{inRange}
-use Rattle.machine.specs.Worker.{atEnd, atOrAboveHead, headIsPast, isFull, stepOfWorker, tooEarly, workerRuns}
-use Rattle.machine.specs.Thief.{marginKept, stepOfThief, thiefRuns}
+use Rattle.machine.specs.Worker.{atEnd, atOrAboveHead, headIsPast, isFull, stays, workerRuns}
+use Rattle.machine.specs.Update.{withThief, withWorker}
+use Rattle.machine.specs.Thief.{keepsMargin, thiefRuns, idleThief, stays as thiefStays}
 use Rattle.machine.specs.Obey.{obey, obeyInRange, thiefIsThere}
-use Rattle.machine.specs.Effect.{PartyCall, stepOf}
+use Rattle.machine.specs.Linearizable.{ffThe}
+use Rattle.machine.specs.Perform.{viewKeeping, workerView, performWorker, stepOfWorker, stepKeeping, performThief}
 
--- An entry e on the machine m comes to d.
-record Obeys (m : Machine) (e : Entry) (d : Done) : Type 0 where
-  keeps : isRefusal (d .outcome) ≡ true → d .machine ≡ m
-  sizes : d .machine .sizes ≡ m .sizes
-  answers : isAnswer (d .outcome) ≡ true → (c : PartyCall) → stepOf c e ≡ c
+-- What holds of the result d of an entry e on the machine m.
+pub record Obeys (m : Machine) (e : Entry) (d : Done) : Type 0 where
+  pub keeps : isRefusal (d .outcome) ≡ true → d .machine ≡ m
+  pub sizes : d .machine .sizes ≡ m .sizes
+  pub answers : isAnswer (d .outcome) ≡ true → isStep e ≡ true
 
 module _ {m : Machine} {e : Entry} where
   -- handed back as it was
@@ -27,35 +35,70 @@ module _ {m : Machine} {e : Entry} where
   moves : {n : Machine} → n .sizes ≡ m .sizes → Obeys m e (done Moved n)
   moves same = record { keeps = λ r. absurd (false≢true r); sizes = same; answers = λ a. absurd (false≢true a) }
 
-  answers : {n : Machine} {o : Outcome} → isRefusal o ≡ false → n .sizes ≡ m .sizes → ((c : PartyCall) → stepOf c e ≡ c) → Obeys m e (done o n)
+  answers : {n : Machine} {o : Outcome} → isRefusal o ≡ false → n .sizes ≡ m .sizes → isStep e ≡ true → Obeys m e (done o n)
   answers no-refusal same step = record { keeps = λ r. absurd (false≢true (sym no-refusal ∙ r)); sizes = same; answers = λ a. step }
 
-worker-obeys : (m : Machine) (c : WorkerCall) → Obeys m WorkerStep (stepOfWorker m c)
-worker-obeys m WorkerCall.Idle = refuses refl
-worker-obeys m (PutLoadHead x) =
-    either (Obeys m WorkerStep) (atEnd m) (answers refl refl (λ c. refl)) (either (Obeys m WorkerStep) (isFull m) (answers refl refl (λ c. refl)) (moves refl))
-worker-obeys m (PutStoreSlot x) = either (Obeys m WorkerStep) (hasRoom m) (moves refl) (refuses refl)
-worker-obeys m PutStoreTail = either (Obeys m WorkerStep) (hasRoom m) (answers refl refl (λ c. refl)) (refuses refl)
-worker-obeys m TakeStoreTail = either (Obeys m WorkerStep) (hasRoom m) (moves refl) (refuses refl)
-worker-obeys m (TakeLoadHead t) = either (Obeys m WorkerStep) (atOrAboveHead t m) (moves refl) (moves refl)
-worker-obeys m (TakeLoadSlot t) = answers refl refl (λ c. refl)
-worker-obeys m (TakeLock t) = either (Obeys m WorkerStep) (lockIsFree m && nothingPending m) (moves refl) (refuses refl)
-worker-obeys m (TakeReloadHead t) = either (Obeys m WorkerStep) (headIsPast t m) (moves refl) (moves refl)
-worker-obeys m (TakeRestoreTail t) = either (Obeys m WorkerStep) (hasRoom m) (moves refl) (refuses refl)
-worker-obeys m TakeUnlockEmpty = either (Obeys m WorkerStep) (nothingPending m) (answers refl refl (λ c. refl)) (refuses refl)
-worker-obeys m (TakeUnlockTask t) = either (Obeys m WorkerStep) (nothingPending m) (moves refl) (refuses refl)
-worker-obeys m (TakeLoadLastSlot t) = answers refl refl (λ c. refl)
+-- .. of a move of the worker's; and of one that leaves all as it is, where the worker's call is its own
+abbrev WorkerObeys : Machine → WorkerMove → Type 0
+WorkerObeys m d = Obeys m WorkerStep (performWorker m d)
 
-thief-obeys : (i : ℕ) (m : Machine) (c : ThiefCall) → Obeys m (ThiefStep i) (stepOfThief i m c)
-thief-obeys i m ThiefCall.Idle = refuses refl
-thief-obeys i m StealLock = either (Obeys m (ThiefStep i)) (lockIsFree m) (moves refl) (refuses refl)
-thief-obeys i m StealLoadHead = moves refl
-thief-obeys i m (StealRaiseHead h) = moves refl
-thief-obeys i m (StealLoadTail h) = either (Obeys m (ThiefStep i)) (marginKept h m) (moves refl) (moves refl)
-thief-obeys i m (StealLoadSlot h) = moves refl
-thief-obeys i m (StealUnlockTask x) = answers refl refl (λ c. refl)
-thief-obeys i m (StealRestoreHead h) = moves refl
-thief-obeys i m StealUnlockAbort = answers refl refl (λ c. refl)
+worker-stays : {m : Machine} {c : WorkerCall} (o : Outcome) → m .worker .call ≡ c → isAnswer o ≡ false → WorkerObeys m (stays o (workerView m c))
+worker-stays {m = m} o at no-answer = subst (λ c. Obeys m WorkerStep (done o (withWorker c m))) at (refuses no-answer)
+
+worker-obeys : (m : Machine) (c : WorkerCall) → m .worker .call ≡ c → Obeys m WorkerStep (stepOfWorker m c)
+worker-obeys m WorkerCall.Idle at = worker-stays Place at refl
+worker-obeys m (PutLoadHead x) at =
+    let v = workerView m (PutLoadHead x) in
+    either (WorkerObeys m) (atEnd v) (answers refl refl refl) (either (WorkerObeys m) (isFull v) (answers refl refl refl) (moves refl))
+worker-obeys m (PutStoreSlot x) at = either (WorkerObeys m) (hasRoom m) (moves refl) (worker-stays Wait at refl)
+worker-obeys m PutStoreTail at = either (WorkerObeys m) (hasRoom m) (answers refl refl refl) (worker-stays Wait at refl)
+worker-obeys m TakeStoreTail at = either (WorkerObeys m) (hasRoom m) (moves refl) (worker-stays Wait at refl)
+worker-obeys m (TakeLoadHead t) at = either (WorkerObeys m) (atOrAboveHead t (workerView m (TakeLoadHead t))) (moves refl) (moves refl)
+worker-obeys m (TakeLoadSlot t) at = answers refl refl refl
+worker-obeys m (TakeLock t) at = either (WorkerObeys m) (lockIsFree m && nothingPending m) (moves refl) (worker-stays Wait at refl)
+worker-obeys m (TakeReloadHead t) at = either (WorkerObeys m) (headIsPast t (workerView m (TakeReloadHead t))) (moves refl) (moves refl)
+worker-obeys m (TakeRestoreTail t) at = either (WorkerObeys m) (hasRoom m) (moves refl) (worker-stays Wait at refl)
+worker-obeys m TakeUnlockEmpty at = either (WorkerObeys m) (nothingPending m) (answers refl refl refl) (worker-stays Wait at refl)
+worker-obeys m (TakeUnlockTask t) at = either (WorkerObeys m) (nothingPending m) (moves refl) (worker-stays Wait at refl)
+worker-obeys m (TakeLoadLastSlot t) at = answers refl refl refl
+
+-- a thief's own call put back in its place changes nothing
+pub thief-put-back : (m : Machine) (i : ℕ) {c : ThiefCall} → thiefCall m i ≡ c → withThief i c m ≡ m
+thief-put-back m i at =
+    let with-thieves : List Thief → Machine = λ l.
+    record {
+      sizes = m .sizes;
+      slots = m .slots;
+      head = m .head;
+      tail = m .tail;
+      lock = m .lock;
+      buffer = m .buffer;
+      spacing = m .spacing;
+      worker = m .worker;
+      thieves = l;
+    }
+    in
+    ap (λ c. withThief i c m) (sym at) ∙ ap with-thieves (set-getD (m .thieves) i idleThief)
+
+-- the same for a thief's move
+abbrev ThiefObeys : ℕ → Machine → ThiefMove → Type 0
+ThiefObeys i m d = Obeys m (ThiefStep i) (performThief i m d)
+
+thief-stays :
+    (margin : ℕ) {i : ℕ} {m : Machine} {c : ThiefCall} (o : Outcome) → thiefCall m i ≡ c → isAnswer o ≡ false
+    → ThiefObeys i m (thiefStays o (viewKeeping margin m i c))
+thief-stays margin {i = i} {m = m} o at no-answer = subst (λ n. Obeys m (ThiefStep i) (done o n)) (sym (thief-put-back m i at)) (refuses no-answer)
+
+pub thief-obeys : (margin i : ℕ) (m : Machine) (c : ThiefCall) → thiefCall m i ≡ c → Obeys m (ThiefStep i) (stepKeeping margin i m c)
+thief-obeys margin i m ThiefCall.Idle at = thief-stays margin Place at refl
+thief-obeys margin i m StealLock at = either (ThiefObeys i m) (lockIsFree m) (moves refl) (thief-stays margin Wait at refl)
+thief-obeys margin i m StealLoadHead at = moves refl
+thief-obeys margin i m (StealRaiseHead h) at = moves refl
+thief-obeys margin i m (StealLoadTail h) at = either (ThiefObeys i m) (keepsMargin h (thiefTail m) margin) (moves refl) (moves refl)
+thief-obeys margin i m (StealLoadSlot h) at = moves refl
+thief-obeys margin i m (StealUnlockTask x) at = answers refl refl refl
+thief-obeys margin i m (StealRestoreHead h) at = moves refl
+thief-obeys margin i m StealUnlockAbort at = answers refl refl refl
 
 obeyInRange-obeys : (m : Machine) (e : Entry) → Obeys m e (obeyInRange m e)
 obeyInRange-obeys m Drain = either (Obeys m Drain) (not (nothingPending m)) (moves refl) (refuses refl)
@@ -63,10 +106,18 @@ obeyInRange-obeys m ClientStore =
     either (Obeys m ClientStore) (workerRuns (m .worker .call)) (refuses refl) (either (Obeys m ClientStore) (hasRoom m) (moves refl) (refuses refl))
 obeyInRange-obeys m (BeginPut x) = either (Obeys m (BeginPut x)) (workerRuns (m .worker .call)) (refuses refl) (moves refl)
 obeyInRange-obeys m BeginTake =
-    either (Obeys m BeginTake) (workerRuns (m .worker .call)) (refuses refl) (either (Obeys m BeginTake) (tooEarly m) (refuses refl) (moves refl))
-obeyInRange-obeys m WorkerStep = worker-obeys m (m .worker .call)
+    either (Obeys m BeginTake) (workerRuns (m .worker .call)) (refuses refl) (either (Obeys m BeginTake) (tooEarly (m .spacing) (m .sizes .spacing)) (refuses refl) (moves refl))
+obeyInRange-obeys m WorkerStep = worker-obeys m (m .worker .call) refl
 obeyInRange-obeys m (BeginSteal i) = either (Obeys m (BeginSteal i)) (thiefRuns (thiefCall m i)) (refuses refl) (moves refl)
-obeyInRange-obeys m (ThiefStep i) = thief-obeys i m (thiefCall m i)
+obeyInRange-obeys m (ThiefStep i) = thief-obeys (marginInUse (m .sizes)) i m (thiefCall m i) refl
+
+-- .. of an entry that is looked at
+
+pub obeyed-sizes : (m : Machine) (e : Entry) → obeyInRange m e .machine .sizes ≡ m .sizes
+obeyed-sizes m e = obeyInRange-obeys m e .sizes
+
+pub obeyed-answers : (m : Machine) (e : Entry) → isAnswer (obeyInRange m e .outcome) ≡ true → isStep e ≡ true
+obeyed-answers m e = obeyInRange-obeys m e .answers
 
 obey-obeys : (m : Machine) (e : Entry) → Obeys m e (obey m e)
 obey-obeys m e = either (Obeys m e) (inRange m && thiefIsThere (m .sizes) e) (obeyInRange-obeys m e) (refuses refl)
@@ -79,8 +130,8 @@ pub sizes-kept : (m : Machine) (e : Entry) → obey m e .machine .sizes ≡ m .s
 sizes-kept m e = obey-obeys m e .sizes
 
 -- 16 to 21 come only at steps
-pub answers-at-steps : (m : Machine) (e : Entry) (c : PartyCall) → isAnswer (obey m e .outcome) ≡ true → stepOf c e ≡ c
-answers-at-steps m e c answer = obey-obeys m e .answers answer c
+pub answers-at-steps : (m : Machine) (e : Entry) → isAnswer (obey m e .outcome) ≡ true → isStep e ≡ true
+answers-at-steps m e answer = obey-obeys m e .answers answer
 
 -- 7 WAIT where the thief is not there
 pub thief-there : (m : Machine) (e : Entry) → thiefIsThere (m .sizes) e ≡ false → obey m e ≡ done Wait m
@@ -89,3 +140,24 @@ thief-there m e gone = rw (gone, and-false)
 -- the entry is looked at where the machine is in range and the thief there, and only there
 pub obey-by : (m : Machine) (e : Entry) {b : Bool} → (inRange m && thiefIsThere (m .sizes) e) ≡ b → obey m e ≡ cond b (obeyInRange m e) (done Wait m)
 obey-by m e p = ap (λ b. cond b (obeyInRange m e) (done Wait m)) p
+
+-- so FF-THE is a lawful implementation
+pub party-there : (s : Sizes) (e : Entry) → thiefIsThere s e ≡ isThere s (partyOf e)
+party-there s Drain = refl
+party-there s ClientStore = refl
+party-there s (BeginPut x) = refl
+party-there s BeginTake = refl
+party-there s WorkerStep = refl
+party-there s (BeginSteal i) = refl
+party-there s (ThiefStep i) = refl
+
+pub ffThe-lawful : Lawful ffThe
+ffThe-lawful =
+    record {
+      sizes = λ m. m .sizes;
+      sizes-fresh = λ s. refl;
+      sizes-kept = sizes-kept;
+      answers-at-steps = answers-at-steps;
+      absent = λ m e gone. ap (λ d. isRefusal (d .outcome)) (thief-there m e (party-there (m .sizes) e ∙ gone));
+      untold = λ begun answer isTold. absurd (false≢true (sym isTold));
+    }

@@ -8,19 +8,23 @@ use native.Mathlib.Omega.{arith}
 use lib.ListN.{length, length-take}
 use borrow.Author.Tests.{le-leb}
 use Rattle.terms.specs.Sizes.{neededMargin, sizesInRange}
+use Rattle.terms.proofs.Laws.Lists.{all-each}
+use Rattle.stores.specs.Index.{indexInRange, slotIndexInRange}
+use Rattle.stores.specs.StoreBuffer.{pending}
+use Rattle.stores.proofs.Laws.Index.{idx, idx-in-range, idx-slot-in-range}
+use Rattle.stores.proofs.Laws.Chain.{chain-needed, chain-takeStores, takeStores}
+use Rattle.claim.specs.Watch.{Watch, watchFresh, watched}
 use Rattle.machine.specs.Types.{Entry, Index, Machine, Sizes, ThiefCall, StealLock, StealLoadHead, StealRaiseHead, StealLoadTail, StealLoadSlot, StealUnlockTask, StealRestoreHead, StealUnlockAbort, WorkerCall, PutLoadHead, PutStoreSlot, PutStoreTail, TakeStoreTail, TakeLoadHead, TakeLoadSlot, TakeLock, TakeReloadHead, TakeRestoreTail, TakeUnlockEmpty, TakeUnlockTask, TakeLoadLastSlot}
-use Rattle.machine.specs.Index.{indexInRange, slotIndexInRange}
-use Rattle.machine.specs.StoreBuffer.{pending}
-use Rattle.machine.specs.Machine.{fresh, idleThief, thiefCall}
-use Rattle.machine.specs.InRange.{inRange, thiefInRange, workerInRange}
+use Rattle.machine.specs.Thief.{idleThief, thiefInRange}
+use Rattle.machine.specs.Machine.{fresh, thiefCall}
+use Rattle.machine.specs.Worker.{workerInRange}
+use Rattle.machine.specs.InRange.{inRange}
 use Rattle.machine.specs.Obey.{machineAfter}
-use Rattle.machine.specs.Effect.{Watch, watchFresh, watched}
-use Rattle.machine.proofs.Laws.Lists.{all-each}
-use Rattle.machine.proofs.Laws.Index.{idx, idx-in-range, idx-slot-in-range}
-use Rattle.machine.proofs.Laws.Chain.{chain-needed, chain-takeStores, takeStores}
-use Rattle.machine.proofs.Linearizable.Invariant.{InPlace, Invariant, Sound, holds, outside, raised, raised-stolen, stolen}
+use Rattle.machine.specs.Linearizable.{ffThe}
+use Rattle.machine.proofs.Linearizable.Invariant.{Environment, InPlace, Sound, holds, outside, raised, raised-stolen, stolen}
+use Rattle.machine.proofs.Linearizable.Plain.{Plain}
 use Rattle.machine.proofs.Linearizable.Watched.{watched-machine}
-use Rattle.machine.proofs.Linearizable.Theorem.{fresh-invariant, run-invariant}
+use Rattle.machine.proofs.Linearizable.Theorem.{fresh-plain, run-invariant}
 
 -- ── In range ────────────────────────────────────────────────────────────────────────────────────────────────────────────────
 
@@ -30,8 +34,8 @@ index-ranged i k here most = ap indexInRange here ∙ idx-in-range k ∙ le-leb 
 slot-ranged : (i : Index) (k : ℕ) → i ≡ idx k → 1 ≤ k → k ≤ 2147483649 → slotIndexInRange i ≡ true
 slot-ranged i k here least most = ap slotIndexInRange here ∙ idx-slot-in-range k ∙ rw (le-leb 1 k least) (le-leb k 2147483649 most)
 
-module _ {n : ℕ} {m : Machine} {p : ThiefCall} where
-  worker-ranged : (c : WorkerCall) → Sound n m c p → workerInRange c ≡ true
+module _ {g : Environment} {n : ℕ} {m : Machine} {p : ThiefCall} where
+  worker-ranged : (c : WorkerCall) → Sound g n m c p → workerInRange c ≡ true
   worker-ranged WorkerCall.Idle v = refl
   worker-ranged (PutLoadHead x) v = refl
   worker-ranged (PutStoreSlot x) v = refl
@@ -46,8 +50,8 @@ module _ {n : ℕ} {m : Machine} {p : ThiefCall} where
   worker-ranged (TakeUnlockTask t) v = slot-ranged t (v .buffer .seen) (v .tail .holds-tail) (omega (arith, v .tail .floor)) (omega (arith, v .tail .top))
   worker-ranged (TakeLoadLastSlot t) v = slot-ranged t (v .buffer .seen) (v .tail .holds-tail) (omega (arith, v .tail .floor)) (omega (arith, v .tail .top))
 
-module _ {n : ℕ} {m : Machine} {c : WorkerCall} where
-  inside-ranged : (p : ThiefCall) → Sound n m c p → thiefInRange p ≡ true
+module _ {g : Environment} {n : ℕ} {m : Machine} {c : WorkerCall} where
+  inside-ranged : (p : ThiefCall) → Sound g n m c p → thiefInRange p ≡ true
   inside-ranged ThiefCall.Idle v = refl
   inside-ranged StealLock v = refl
   inside-ranged StealLoadHead v = refl
@@ -70,7 +74,7 @@ outside-ranged (StealRestoreHead h) out = absurd (false≢true out)
 outside-ranged StealUnlockAbort out = refl
 
 -- a machine of the invariant, after at most 4,096 entries, is in range
-invariant-ranged : {s : Sizes} {n : ℕ} {w : Watch} → Invariant s n w → sizesInRange s ≡ true → n ≤ 4096 → inRange (w .machine) ≡ true
+invariant-ranged : {s : Sizes} {n : ℕ} {w : Watch Machine} → Plain s n w → sizesInRange s ≡ true → n ≤ 4096 → inRange (w .machine) ≡ true
 unfolding inRange
 invariant-ranged {w = w} v ranged short =
     let m = w .machine in
@@ -78,7 +82,7 @@ invariant-ranged {w = w} v ranged short =
     rw (
       ap sizesInRange (v .sizes-are) ∙ ranged,
       le-leb (m .buffer .count) (m .sizes .buffer) (u .buffer .fits),
-      le-leb (m .since) 4096 (omega (arith, u .counted)),
+      le-leb (m .spacing .count) 4096 (omega (arith, u .counted)),
       index-ranged (m .head) (u .head .lo + (raised (v .inside) + stolen (v .inside))) (u .head .head-is) (omega (arith, u .head .top, raised-stolen (v .inside))),
       u .buffer .tail-ranged,
       u .buffer .ranged,
@@ -93,8 +97,8 @@ invariant-ranged {w = w} v ranged short =
 -- every machine that a run of at most 4,096 entries reaches is in range
 pub run-in-range : (s : Sizes) (es : List Entry) → sizesInRange s ≡ true → length es ≤ 4096 → inRange (machineAfter (fresh s) es) ≡ true
 run-in-range s es ranged short =
-    let v = run-invariant s 0 (watchFresh s) es (fresh-invariant s ranged) in
-    ap inRange (sym (watched-machine (watchFresh s) es)) ∙ invariant-ranged v ranged (omega arith)
+    let v = run-invariant s 0 (watchFresh ffThe s) es (fresh-plain s ranged) in
+    ap inRange (sym (watched-machine (watchFresh ffThe s) es)) ∙ invariant-ranged v ranged (omega arith)
 
 -- ── Pending take stores ─────────────────────────────────────────────────────────────────────────────────────────────────────
 
@@ -103,12 +107,12 @@ pub run-take-stores :
     (s : Sizes) (es : List Entry) → sizesInRange s ≡ true
     → takeStores (machineAfter (fresh s) es .tail) (pending (machineAfter (fresh s) es .buffer)) ≤ neededMargin (s .buffer) (s .spacing)
 run-take-stores s es ranged =
-    let v = run-invariant s 0 (watchFresh s) es (fresh-invariant s ranged) in
-    let m = watched (watchFresh s) es .machine in
+    let v = run-invariant s 0 (watchFresh ffThe s) es (fresh-plain s ranged) in
+    let m = watched ffThe (watchFresh ffThe s) es .machine in
     let b = v .sound .buffer in
     let short : length (pending (m .buffer)) ≤ m .sizes .buffer = simp length-take (omega (arith, b .fits)) in
     let dips : takeStores (m .tail) (pending (m .buffer)) ≡ b .dips = ap (λ t. takeStores t (pending (m .buffer))) (b .tail-is) ∙ chain-takeStores (b .chain) in
     let few : b .dips ≤ neededMargin (m .sizes .buffer) (m .sizes .spacing) = chain-needed (m .sizes .buffer) (b .few) short (b .chain) in
     let here : takeStores (m .tail) (pending (m .buffer)) ≤ neededMargin (m .sizes .buffer) (m .sizes .spacing) = omega arith in
-    subst (λ m. takeStores (m .tail) (pending (m .buffer)) ≤ neededMargin (s .buffer) (s .spacing)) (watched-machine (watchFresh s) es)
+    subst (λ m. takeStores (m .tail) (pending (m .buffer)) ≤ neededMargin (s .buffer) (s .spacing)) (watched-machine (watchFresh ffThe s) es)
     (subst (λ s. takeStores (m .tail) (pending (m .buffer)) ≤ neededMargin (s .buffer) (s .spacing)) (v .sizes-are) here)

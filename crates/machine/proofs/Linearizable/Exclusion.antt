@@ -4,8 +4,8 @@ use mathlib.Core.Bool.{Bool, true, false, false≢true}
 use Prim.Native.Nat.{ℕ, _<_}
 use lib.Dec.{eqb}
 use borrow.Author.Tests.{eq-eqb, eqb-true, ne-eqb}
+use Rattle.stores.specs.Lock.{isNobody}
 use Rattle.machine.specs.Types.{Holder, Nobody, TheWorker, TheThief, ThiefCall}
-use Rattle.machine.specs.Machine.{isNobody}
 use Rattle.machine.proofs.Linearizable.Invariant.{Exclusive, InPlace, holds, outside}
 
 -- ── Nobody has the lock ─────────────────────────────────────────────────────────────────────────────────────────────────────

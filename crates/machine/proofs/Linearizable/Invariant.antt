@@ -7,24 +7,26 @@
 -- `Sound` holds whichever margin is set; `Agrees` needs one that is enough.
 use mathlib.Core.Path.{_≡_}
 use mathlib.Core.Bool.{Bool, true, false, cond}
-use mathlib.Core.List.{List}
-use Prim.Native.Nat.{ℕ, _+_, _-_, _≤_, _<_}
+use mathlib.Core.List.{List, [], foldl, _∷_}
+use Prim.Native.Nat.{ℕ, _+_, _≤_, _<_, _-_}
 use native.Mathlib.Omega.{arith}
 use lib.Dec.{eqb}
-use lib.ListN.{length, getD}
-use Rattle.terms.specs.Sizes.{enoughMargin}
+use lib.ListN.{length}
+use Rattle.terms.specs.Sizes.{marginInUse, neededMargin}
 use Rattle.terms.proofs.Laws.Sizes.{SizeBounds}
-use Rattle.machine.specs.Types.{Holder, Nobody, TheWorker, TheThief, Index, Machine, Outcome, Sizes, Store, StoreBuffer, ThiefCall, StealLock, StealLoadHead, StealRaiseHead, StealLoadTail, StealLoadSlot, StealUnlockTask, StealRestoreHead, StealUnlockAbort, WorkerCall, PutLoadHead, PutStoreSlot, PutStoreTail, TakeStoreTail, TakeLoadHead, TakeLoadSlot, TakeLock, TakeReloadHead, TakeRestoreTail, TakeUnlockEmpty, TakeUnlockTask, TakeLoadLastSlot}
-use Rattle.machine.specs.Lists.{all}
-use Rattle.machine.specs.Index.{indexInRange}
-use Rattle.machine.specs.InRange.{storeInRange}
-use Rattle.machine.specs.StoreBuffer.{pending}
+use Rattle.stores.specs.StoreBuffer.{slotsAfter}
+use Rattle.stores.proofs.Laws.Index.{idx}
+use Rattle.stores.proofs.Laws.Chain.{SlotsWithin}
+use Rattle.stores.proofs.Laws.Pending.{Memory, Pending, unlanded}
+use Rattle.stores.proofs.Laws.Spacing.{asked}
+use Rattle.claim.specs.PlainQueue.{PlainQueue}
+use Rattle.claim.specs.Calls.{Begun, nothing, aPut, aTake, aSteal, Party, PartyCall, worker, thief}
+use Rattle.claim.proofs.Follows.{Follows}
+use Rattle.machine.specs.Types.{Holder, Nobody, TheWorker, TheThief, Index, Machine, Sizes, Store, ThiefCall, StealLock, StealLoadHead, StealRaiseHead, StealLoadTail, StealLoadSlot, StealUnlockTask, StealRestoreHead, StealUnlockAbort, WorkerCall, PutLoadHead, PutStoreSlot, PutStoreTail, TakeStoreTail, TakeLoadHead, TakeLoadSlot, TakeLock, TakeReloadHead, TakeRestoreTail, TakeUnlockEmpty, TakeUnlockTask, TakeLoadLastSlot, Outcome, Abort}
+use Rattle.machine.specs.Update.{withMemory}
 use Rattle.machine.specs.Machine.{thiefCall, workerLoad, workerTail}
-use Rattle.machine.specs.PlainQueue.{PlainQueue, StoredTask}
-use Rattle.machine.specs.Effect.{Begun, nothing, aPut, aTake, aSteal, PartyCall, Watch, worker, thief}
-use Rattle.machine.specs.Linearizable.{answersTo, thiefOwes, workerOwes}
-use Rattle.machine.proofs.Laws.Index.{idx}
-use Rattle.machine.proofs.Laws.Chain.{Chain, SlotsWithin}
+use Rattle.machine.specs.Linearizable.{thiefOwes, workerOwes}
+pub use Rattle.machine.proofs.Linearizable.Tasks.{Shows, taskAt}
 
 -- ── The worker's call ───────────────────────────────────────────────────────────────────────────────────────────────────────
 
@@ -175,18 +177,6 @@ HoldsHead (StealUnlockTask x) lo = Unit {0}
 HoldsHead (StealRestoreHead h) lo = h ≡ idx lo
 HoldsHead StealUnlockAbort lo = Unit {0}
 
--- while it has a task to load, no pending store is to that slot
-abbrev pub Unwritten : ThiefCall → ℕ → ℕ → List Store → Type 0
-Unwritten ThiefCall.Idle lo bound b = Unit {0}
-Unwritten StealLock lo bound b = Unit {0}
-Unwritten StealLoadHead lo bound b = Unit {0}
-Unwritten (StealRaiseHead h) lo bound b = Unit {0}
-Unwritten (StealLoadTail h) lo bound b = Unit {0}
-Unwritten (StealLoadSlot h) lo bound b = SlotsWithin lo bound b
-Unwritten (StealUnlockTask x) lo bound b = Unit {0}
-Unwritten (StealRestoreHead h) lo bound b = Unit {0}
-Unwritten StealUnlockAbort lo bound b = Unit {0}
-
 -- whether a thief is outside the lock
 abbrev pub outside : ThiefCall → Bool
 outside ThiefCall.Idle = true
@@ -230,30 +220,36 @@ holds (TheThief j) i = eqb i j
 
 -- ── The machine ─────────────────────────────────────────────────────────────────────────────────────────────────────────────
 
--- The pending stores, from memory's tail to the worker's.
-pub record Pending (z : Sizes) (tail : Index) (b : StoreBuffer) : Type 0 where
-  -- memory's tail
-  pub landed : ℕ
-  -- the tail as the worker loads it
-  pub seen : ℕ
-  -- the stores that are due before the first pending take store
-  pub due : ℕ
-  -- the pending take stores
-  pub dips : ℕ
-  -- the stores that are due behind the last before another take store
-  pub owed : ℕ
-  -- an index above that of every pending slot store
-  pub bound : ℕ
-  pub tail-is : tail ≡ idx landed
-  -- from memory's tail the pending stores lead to the worker's, and their take stores are spaced
-  pub chain : Chain (z .spacing) bound landed due (pending b) dips owed seen
-  pub few : due ≤ z .spacing
-  -- no more are pending than the buffer holds, and they lie within its array
-  pub fits : b .count ≤ z .buffer
-  pub cells : length (b .stores) ≡ 64
-  -- each is in range, and so is memory's tail
-  pub ranged : all (λ a. storeInRange (a .kind)) (pending b) ≡ true
-  pub tail-ranged : indexInRange tail ≡ true
+-- What FF-THE runs on: the memory below the buffer, the margin that thieves keep, and the calls that the plain queue is told of, by what was begun
+-- and what it answers.
+pub record Environment : Type 0 where
+  pub memory : Memory
+  pub margin : ℕ
+  pub isTold : Begun → Outcome → Bool
+
+-- a margin that is enough for as many stores as the buffer holds and as lie below it
+abbrev pub Enough : Environment → Sizes → Type 0
+Enough g z = neededMargin (length (g .memory .front) + z .buffer) (z .spacing) ≤ g .margin
+
+-- what a steal owes that gets nothing
+abbrev pub denied : Environment → List Outcome
+denied g = cond (g .isTold aSteal Abort) (Abort ∷ []) []
+
+-- the machine's own memory, with nothing between it and the buffer
+abbrev pub plainMemory : Machine → Memory
+plainMemory m = record { front = []; tail = m .tail; slots = m .slots }
+
+-- .. with the margin in use
+abbrev pub plainTelling : (Begun → Outcome → Bool) → Machine → Environment
+plainTelling isTold m = record { memory = plainMemory m; margin = marginInUse (m .sizes); isTold = isTold }
+
+-- .. and where the plain queue is told of every call
+abbrev pub plain : Machine → Environment
+plain m = plainTelling (λ begun answer. true) m
+
+-- the machine as thieves load it
+abbrev pub bare : Environment → Machine → Machine
+bare g m = withMemory (g .memory .slots) (g .memory .tail) (m .buffer) m
 
 -- Head, by what the thief inside has done to it.
 pub record HeadState (start : ℕ) (head : Index) (p : ThiefCall) : Type 0 where
@@ -277,81 +273,64 @@ pub record TailState (start seen : ℕ) (c : WorkerCall) : Type 0 where
   pub floor : start + 1 ≤ seen + lowered c
   pub top : seen + lowered c + filling c ≤ 2147483648
 
--- how many client stores the spacing rule asks for before the next take
-abbrev pub asked : Bool → ℕ → ℕ → ℕ
-asked taken spacing since = cond taken (spacing - since) 0
-
 -- A machine after n entries, whichever margin is set, with the worker's call c, and p the call of the thief inside.
-pub record Sound (n : ℕ) (m : Machine) (c : WorkerCall) (p : ThiefCall) : Type 0 where
+pub record Sound (g : Environment) (n : ℕ) (m : Machine) (c : WorkerCall) (p : ThiefCall) : Type 0 where
   -- the sizes are in range, and memory is as long as it was made
   pub sizes : SizeBounds (m .sizes)
-  pub memory : length (m .slots) ≡ 256
+  pub memory : length (g .memory .slots) ≡ 256
+  pub margin-some : 1 ≤ g .margin
+  -- the worker's slots are memory's after the stores below the buffer
+  pub slots-after : foldl (λ l a. slotsAfter (m .sizes .slots) l (a .kind)) (g .memory .slots) (g .memory .front) ≡ m .slots
   -- the pending stores lead from memory's tail to the worker's
-  pub buffer : Pending (m .sizes) (m .tail) (m .buffer)
+  pub buffer : Pending (m .sizes) (g .memory) (m .tail) (m .buffer)
   -- head is where the thief inside has left it
   pub head : HeadState (m .sizes .start) (m .head) p
   -- the queue's tail is where the worker's call has left it
   pub tail : TailState (m .sizes .start) (buffer .seen) c
   -- the next take store is as far off as the spacing rule keeps it
-  pub spaced : Spaced c (buffer .owed) (asked (m .taken) (m .sizes .spacing) (m .since)) (m .sizes .spacing)
+  pub spaced : Spaced c (buffer .owed) (asked (m .spacing) (m .sizes .spacing)) (m .sizes .spacing)
   -- the spacing count counts entries
-  pub counted : m .since ≤ n
+  pub counted : m .spacing .count ≤ n
   -- worker and thief are not inside at once
   pub lock : Exclusive (m .lock .holder) (locked c) p
 
 -- ── Machine and plain queue ─────────────────────────────────────────────────────────────────────────────────────────────────
 
--- the task at a place of a list; beyond the list any will do
-abbrev pub taskAt : List StoredTask → ℕ → StoredTask
-taskAt l k = getD l k (record { put = 0; number = 0 })
-
--- from index lo on, the loads are the tasks' numbers
-abbrev pub Shows : (ℕ → ℕ) → ℕ → List StoredTask → Type 0
-Shows load lo l = (k : ℕ) → k < length l → taskAt l k .number ≡ load (lo + k)
-
--- The plain queue's tasks stand in the slots as the worker loads them, `load`, of n slots, with b pending.
-pub record Agrees (n : ℕ) (load : ℕ → ℕ) (b : List Store) (c : WorkerCall) (p : ThiefCall) (seen lo bound : ℕ) (q : PlainQueue) : Type 0 where
+-- The plain queue's tasks stand in the slots as the worker loads them, `load`, of n slots, with the stores b not landed. low: by how much the
+-- worker's tail is below the queue's; fill: how many slots a put is about to fill; gone: how many tasks are stolen and not loaded.
+pub record Agrees (n : ℕ) (load : ℕ → ℕ) (b : List Store) (low fill gone seen lo bound : ℕ) (q : PlainQueue) : Type 0 where
   -- the tasks reach from the oldest, past one that is stolen and not loaded, to the queue's tail
-  pub count : lo + stolen p + length (q .tasks) ≡ seen + lowered c
+  pub count : lo + gone + length (q .tasks) ≡ seen + low
   -- the sum is the queue's tail
-  pub sum : q .sum + 1 ≡ seen + lowered c
+  pub sum : q .sum + 1 ≡ seen + low
   -- from lo on they lie in slots of their own, with the one that a put is about to fill ..
-  pub room : seen + lowered c + filling c ≤ lo + n
+  pub room : seen + low + fill ≤ lo + n
   -- .. and so do all pending slot stores
   pub below : bound ≤ lo + n
   -- the worker would load the tasks' numbers, in their order
-  pub shows : Shows load (lo + stolen p) (q .tasks)
+  pub shows : Shows load (lo + gone) (q .tasks)
   -- what a thief is about to load is not written over
-  pub unwritten : Unwritten p lo bound b
+  pub unwritten : gone ≡ 1 → SlotsWithin lo bound b
 
 -- .. for a sound machine
-abbrev pub AgreesOn : {n : ℕ} {m : Machine} {c : WorkerCall} {p : ThiefCall} → Sound n m c p → PlainQueue → Type 0
-AgreesOn {m = m} {c = c} {p = p} v q =
-    Agrees (m .sizes .slots) (λ k. workerLoad m (idx k)) (pending (m .buffer)) c p (v .buffer .seen) (v .head .lo) (v .buffer .bound) q
+abbrev pub AgreesOn : {g : Environment} {n : ℕ} {m : Machine} {c : WorkerCall} {p : ThiefCall} → Sound g n m c p → PlainQueue → Type 0
+AgreesOn {g = g} {m = m} {c = c} {p = p} v q =
+    Agrees (m .sizes .slots) (λ k. workerLoad m (idx k)) (unlanded (g .memory) (m .buffer)) (lowered c) (filling c) (stolen p) (v .buffer .seen) (v .head .lo) (v .buffer .bound) q
 
 -- ── A run watched ───────────────────────────────────────────────────────────────────────────────────────────────────────────
 
--- a party's call, as it was begun, and with the plain queue's answers to it
-pub record Follows (call : PartyCall) (b : Begun) (owed : List Outcome) : Type 0 where
-  pub begun : call .begun ≡ b
-  pub answers : answersTo call ≡ owed
-
--- A run of sizes s, after n entries.
-pub record Invariant (s : Sizes) (n : ℕ) (w : Watch) : Type 0 where
+-- A run of sizes s, after n entries, in the environment g, with m the machine as the worker loads it. E says that the margin is enough.
+pub record Invariant (E : Type 0) (s : Sizes) (n : ℕ) (g : Environment) (m : Machine) (q : PlainQueue) (calls : Party → PartyCall) : Type 0 where
   -- the call of the thief inside the lock
   pub inside : ThiefCall
   -- the sizes never change
-  pub sizes-are : w .machine .sizes ≡ s
-  pub long : length (w .machine .thieves) ≡ 8
-  pub sound : Sound n (w .machine) (w .machine .worker .call) inside
+  pub sizes-are : m .sizes ≡ s
+  pub long : length (m .thieves) ≡ 8
+  pub sound : Sound g n m (m .worker .call) inside
   -- the thief that holds the lock is inside, and every other is outside
-  pub thieves : (i : ℕ) → InPlace (holds (w .machine .lock .holder) i) (w .machine .sizes .thieves) i inside (thiefCall (w .machine) i)
+  pub thieves : (i : ℕ) → InPlace (holds (m .lock .holder) i) (m .sizes .thieves) i inside (thiefCall m i)
   -- with enough margin, the tasks are in the slots ..
-  pub agrees : enoughMargin s ≡ true → AgreesOn sound (w .queue)
+  pub agrees : E → AgreesOn sound q
   -- .. and what each party's call owes is what the plain queue has answered to it
-  pub worker-call :
-      enoughMargin s ≡ true
-      → Follows (w .calls worker) (workerBegun (w .machine) (w .machine .worker .call)) (workerOwes (w .machine) (w .machine .worker .call))
-  pub thief-call :
-      enoughMargin s ≡ true → (i : ℕ)
-      → Follows (w .calls (thief i)) (thiefBegun (thiefCall (w .machine) i)) (thiefOwes (w .machine) (thiefCall (w .machine) i))
+  pub worker-call : E → Follows (calls worker) (workerBegun m (m .worker .call)) (workerOwes m (m .worker .call))
+  pub thief-call : E → (i : ℕ) → Follows (calls (thief i)) (thiefBegun (thiefCall m i)) (thiefOwes (denied g) (bare g m) (thiefCall m i))

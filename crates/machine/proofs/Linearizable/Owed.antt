@@ -1,12 +1,12 @@
 -- What a call was begun as and what it owes depend on one load at most: that of the index that it is about to load.
 use mathlib.Core.Path.{_≡_, refl, ap, sym, _∙_}
-use mathlib.Core.List.{[], _∷_}
+use mathlib.Core.List.{List, [], _∷_}
 use Prim.Native.Nat.{ℕ}
-use Rattle.machine.specs.Types.{Index, Machine, Task, ThiefCall, StealLock, StealLoadHead, StealRaiseHead, StealLoadTail, StealLoadSlot, StealUnlockTask, StealRestoreHead, StealUnlockAbort, WorkerCall, PutLoadHead, PutStoreSlot, PutStoreTail, TakeStoreTail, TakeLoadHead, TakeLoadSlot, TakeLock, TakeReloadHead, TakeRestoreTail, TakeUnlockEmpty, TakeUnlockTask, TakeLoadLastSlot}
+use Rattle.stores.proofs.Laws.Index.{idx}
+use Rattle.claim.specs.Calls.{aPut}
+use Rattle.machine.specs.Types.{Index, Machine, Outcome, Task, ThiefCall, StealLock, StealLoadHead, StealRaiseHead, StealLoadTail, StealLoadSlot, StealUnlockTask, StealRestoreHead, StealUnlockAbort, WorkerCall, PutLoadHead, PutStoreSlot, PutStoreTail, TakeStoreTail, TakeLoadHead, TakeLoadSlot, TakeLock, TakeReloadHead, TakeRestoreTail, TakeUnlockEmpty, TakeUnlockTask, TakeLoadLastSlot}
 use Rattle.machine.specs.Machine.{memoryLoad, workerLoad, workerTail}
-use Rattle.machine.specs.Effect.{aPut}
 use Rattle.machine.specs.Linearizable.{thiefOwes, workerOwes}
-use Rattle.machine.proofs.Laws.Index.{idx}
 use Rattle.machine.proofs.Linearizable.Invariant.{HoldsTail, workerBegun}
 
 -- ── The worker: its load at its own tail ────────────────────────────────────────────────────────────────────────────────────
@@ -48,13 +48,13 @@ module _ (m t : Machine) (seen : ℕ) (same : workerLoad m (idx seen) ≡ worker
 -- ── A thief: the slot that it has stolen and not loaded ─────────────────────────────────────────────────────────────────────
 
 pub thiefOwes-same :
-    (m t : Machine) (c : ThiefCall) → ((h : Index) → c ≡ StealLoadSlot h → memoryLoad m h ≡ memoryLoad t h) → thiefOwes m c ≡ thiefOwes t c
-thiefOwes-same m t ThiefCall.Idle same = refl
-thiefOwes-same m t StealLock same = refl
-thiefOwes-same m t StealLoadHead same = refl
-thiefOwes-same m t (StealRaiseHead h) same = refl
-thiefOwes-same m t (StealLoadTail h) same = refl
-thiefOwes-same m t (StealLoadSlot h) same = ap (λ x. Task x ∷ []) (same h refl)
-thiefOwes-same m t (StealUnlockTask x) same = refl
-thiefOwes-same m t (StealRestoreHead h) same = refl
-thiefOwes-same m t StealUnlockAbort same = refl
+    (denied : List Outcome) (m t : Machine) (c : ThiefCall) → ((h : Index) → c ≡ StealLoadSlot h → memoryLoad m h ≡ memoryLoad t h) → thiefOwes denied m c ≡ thiefOwes denied t c
+thiefOwes-same denied m t ThiefCall.Idle same = refl
+thiefOwes-same denied m t StealLock same = refl
+thiefOwes-same denied m t StealLoadHead same = refl
+thiefOwes-same denied m t (StealRaiseHead h) same = refl
+thiefOwes-same denied m t (StealLoadTail h) same = refl
+thiefOwes-same denied m t (StealLoadSlot h) same = ap (λ x. Task x ∷ []) (same h refl)
+thiefOwes-same denied m t (StealUnlockTask x) same = refl
+thiefOwes-same denied m t (StealRestoreHead h) same = refl
+thiefOwes-same denied m t StealUnlockAbort same = refl

@@ -10,42 +10,46 @@ use lib.ListN.{length, length-append}
 use lib.Signed.{leZ}
 use borrow.Author.Tests.{eq-eqb, eqb-false, eqb-true, le-leb, leb-false, leb-true, lt-ltb, ltb-true, ne-eqb}
 use Rattle.terms.proofs.Laws.Tests.{decide, known}
+use Rattle.stores.specs.Index.{eqZ, next, slotOf}
+use Rattle.stores.specs.StoreBuffer.{push, slotStore, storeInRange, tailStore}
+use Rattle.stores.proofs.Laws.Index.{idx, idx-above, idx-eq, idx-next, idx-slot-in-range}
+use Rattle.stores.proofs.Laws.Chain.{between, no-store, none, slot}
+use Rattle.stores.proofs.Laws.Slots.{slotAfter-apart}
+use Rattle.stores.proofs.Laws.Pending.{inside-cells, pushing, seen-tail}
+use Rattle.claim.specs.PlainQueue.{toldPut, PlainQueue}
+use Rattle.claim.specs.Calls.{aPut}
+use Rattle.claim.proofs.Turn.{answers-at-once, moves}
 use Rattle.machine.specs.Types.{Machine, Moved, Wait, Stored, Full, End, ThiefCall, WorkerCall, PutLoadHead, PutStoreSlot, PutStoreTail}
-use Rattle.machine.specs.Index.{eqZ, next, slotOf}
-use Rattle.machine.specs.StoreBuffer.{push, slotStore, tailStore}
-use Rattle.machine.specs.InRange.{storeInRange}
 use Rattle.machine.specs.Machine.{done, hasRoom, workerLoad, workerTail}
-use Rattle.machine.specs.Update.{pushed}
-use Rattle.machine.specs.PlainQueue.{toldPut, PlainQueue}
-use Rattle.machine.specs.Worker.{atEnd, isFull, putLoadHead, putStoreSlot, putStoreTail, workerAnswers, workerGoesOn}
-use Rattle.machine.specs.Effect.{aPut}
-use Rattle.machine.proofs.Laws.Index.{idx, idx-eq, idx-full, idx-next, idx-slot-in-range}
-use Rattle.machine.proofs.Laws.Chain.{between, no-store, none, slot}
-use Rattle.machine.proofs.Laws.Loads.{pushed-workerLoad, pushed-workerTail, slotAfter-apart}
-use Rattle.machine.proofs.Linearizable.Invariant.{AgreesOn, Sound, head-at, raised-stolen, stolen}
+use Rattle.machine.specs.Update.{pushed, withWorker}
+use Rattle.machine.specs.Worker.{atEnd, isFull}
+use Rattle.machine.specs.Perform.{workerView, stepOfWorker}
+use Rattle.machine.specs.Entries.{workerGoesOn}
+use Rattle.machine.proofs.Laws.Loads.{pushed-workerLoad, pushed-workerTail}
+use Rattle.machine.proofs.Linearizable.Invariant.{Environment, AgreesOn, Sound, head-at, raised-stolen, stolen}
 use Rattle.machine.proofs.Linearizable.Tasks.{replies-end, replies-full, replies-stored, shows-joined}
-use Rattle.machine.proofs.Linearizable.Turn.{StepTurn, answers-at-once, moves, afterWorker}
-use Rattle.machine.proofs.Linearizable.Rebuild.{agrees-call, inside-cells, pushed-shows, pushed-unwritten, pushes, pushing, rebuilt, recalled, recalls, refused, seen-tail, tail-raising, tail-shows, tail-unwritten}
+use Rattle.machine.proofs.Linearizable.Turn.{MoveTurn, StepTurn, afterWorker}
+use Rattle.machine.proofs.Linearizable.Rebuild.{agrees-call, pushed-shows, pushed-unwritten, pushes, rebuilt, recalled, recalls, stayed, tail-raising, tail-shows, tail-unwritten}
 
-module _ {n : ℕ} {m : Machine} {p : ThiefCall} (q : PlainQueue) where
+module _ {g : Environment} {n : ℕ} {m : Machine} {p : ThiefCall} (q : PlainQueue) where
   -- ── Step 1 ──────────────────────────────────────────────────────────────────────────────────────────────────────────────────
 
-  module _ (x : ℕ) (v : Sound n m (PutLoadHead x) p) where
+  module _ (x : ℕ) (v : Sound g n m (PutLoadHead x) p) where
     -- its tests, as natural numbers
 
-    atEnd-is : atEnd m ≡ eqb (v .buffer .seen) 2147483648
+    atEnd-is : atEnd (workerView m WorkerCall.Idle) ≡ eqb (v .buffer .seen) 2147483648
     atEnd-is = ap (λ i. eqZ (i .at) (pos 2147483647)) (seen-tail (v .buffer)) ∙ idx-eq (v .buffer .seen) 2147483648
 
-    isFull-is : isFull m ≡ leb (m .sizes .slots + head-at (v .head)) (v .buffer .seen + 1)
+    isFull-is : isFull (workerView m WorkerCall.Idle) ≡ leb (m .sizes .slots - 1 + head-at (v .head)) (v .buffer .seen)
     isFull-is =
-        (λ i. leZ (pos (m .sizes .slots) -ℤ pos 1) (seen-tail (v .buffer) i .at -ℤ v .head .head-is i .at))
-        ∙ idx-full (m .sizes .slots) (v .buffer .seen) (head-at (v .head)) (omega (arith, v .head .floor))
+        (λ i. leZ (pos (m .sizes .slots - 1)) (seen-tail (v .buffer) i .at -ℤ v .head .head-is i .at))
+        ∙ idx-above (m .sizes .slots - 1) (v .buffer .seen) (head-at (v .head)) (omega (arith, v .head .floor))
 
-    abbrev idle : Sound (n + 1) (afterWorker m (m .lock) (m .buffer) (m .since) (m .taken) WorkerCall.Idle) WorkerCall.Idle p
+    abbrev idle : Sound g (n + 1) (afterWorker m (m .lock) (m .buffer) (m .spacing) WorkerCall.Idle) WorkerCall.Idle p
     idle = recalled v (m .lock) WorkerCall.Idle (record { holds-tail = tt; floor = v .tail .floor; top = v .tail .top }) (v .spaced) (v .lock)
 
     -- the sum is the largest
-    ended : atEnd m ≡ true → StepTurn v q (workerAnswers End m)
+    ended : atEnd (workerView m WorkerCall.Idle) ≡ true → StepTurn v q (done End (withWorker WorkerCall.Idle m))
     ended at-end =
         let last = eqb-true (v .buffer .seen) 2147483648 (known atEnd-is at-end) in
         recalls v End (toldPut x false ∷ []) (m .lock) WorkerCall.Idle refl (λ i. refl) idle
@@ -54,31 +58,31 @@ module _ {n : ℕ} {m : Machine} {p : ThiefCall} (q : PlainQueue) where
         (agrees-call refl (a .room) a))
 
     -- all slots but one are filled, for head is no lower than the oldest task
-    full : atEnd m ≡ false → isFull m ≡ true → StepTurn v q (workerAnswers Full m)
+    full : atEnd (workerView m WorkerCall.Idle) ≡ false → isFull (workerView m WorkerCall.Idle) ≡ true → StepTurn v q (done Full (withWorker WorkerCall.Idle m))
     full not-ended no-room =
         let not-last = eqb-false (v .buffer .seen) 2147483648 (known atEnd-is not-ended) in
-        let close = leb-true (m .sizes .slots + head-at (v .head)) (v .buffer .seen + 1) (known isFull-is no-room) in
+        let close = leb-true (m .sizes .slots - 1 + head-at (v .head)) (v .buffer .seen) (known isFull-is no-room) in
         recalls v Full (toldPut x true ∷ []) (m .lock) WorkerCall.Idle refl (λ i. refl) idle
         (λ a.
         answers-at-once (replies-full q x (λ e. not-last (omega (arith, a .sum)))) (le-leb (m .sizes .slots - 1) (length (q .tasks)) (omega (arith, a .count))) refl refl
         (agrees-call refl (a .room) a))
 
     -- the slot of the tail is free, for head is at most one above lo
-    passed : atEnd m ≡ false → isFull m ≡ false → StepTurn v q (workerGoesOn (PutStoreSlot x) m)
+    passed : atEnd (workerView m WorkerCall.Idle) ≡ false → isFull (workerView m WorkerCall.Idle) ≡ false → StepTurn v q (workerGoesOn (PutStoreSlot x) m)
     passed not-ended some-room =
         let not-last = eqb-false (v .buffer .seen) 2147483648 (known atEnd-is not-ended) in
-        let far = leb-false (m .sizes .slots + head-at (v .head)) (v .buffer .seen + 1) (known isFull-is some-room) in
+        let far = leb-false (m .sizes .slots - 1 + head-at (v .head)) (v .buffer .seen) (known isFull-is some-room) in
         let room : v .buffer .seen + 0 + 1 ≤ v .head .lo + m .sizes .slots = omega (arith, raised-stolen p) in
         recalls v Moved [] (m .lock) (PutStoreSlot x) refl (λ i. refl)
         (recalled v (m .lock) (PutStoreSlot x) (record { holds-tail = tt; floor = v .tail .floor; top = omega (arith, v .tail .top) }) (v .spaced) (v .lock))
         (λ a. moves refl refl (agrees-call refl room a))
 
-    pub put-load-head : StepTurn v q (putLoadHead x m)
-    put-load-head = decide (StepTurn v q) (atEnd m) ended (λ not-ended. decide (StepTurn v q) (isFull m) (full not-ended) (passed not-ended))
+    pub put-load-head : StepTurn v q (stepOfWorker m (PutLoadHead x))
+    put-load-head = decide (MoveTurn v q) (atEnd (workerView m WorkerCall.Idle)) ended (λ not-ended. decide (MoveTurn v q) (isFull (workerView m WorkerCall.Idle)) (full not-ended) (passed not-ended))
 
   -- ── Step 2 ──────────────────────────────────────────────────────────────────────────────────────────────────────────────────
 
-  module _ (x : ℕ) (v : Sound n m (PutStoreSlot x) p) (at : m .worker .call ≡ PutStoreSlot x) where
+  module _ (x : ℕ) (v : Sound g n m (PutStoreSlot x) p) (at : m .worker .call ≡ PutStoreSlot x) where
     -- no task lies in the slot that is written, nor one that a thief is about to load
     stores-slot : hasRoom m ≡ true → StepTurn v q (workerGoesOn PutStoreTail (pushed (slotStore (workerTail m) x) m))
     stores-slot some-room =
@@ -93,21 +97,21 @@ module _ {n : ℕ} {m : Machine} {p : ThiefCall} (q : PlainQueue) where
         rw (idx-slot-in-range seen, le-leb 1 seen (omega arith), le-leb seen 2147483649 (omega arith))
         in
         let sound =
-        rebuilt v (m .lock) (push a (m .buffer)) (m .since) (m .taken) PutStoreTail
+        rebuilt v (m .lock) (push a (m .buffer)) (m .spacing) PutStoreTail
         (pushing (v .buffer) (v .sizes) room a bound 0 (v .buffer .owed) seen (omega arith) ranged (λ c few. slot x low (none (omega arith))))
         (record { holds-tail = tt; floor = v .tail .floor; top = v .tail .top })
         (v .spaced)
         (omega (arith, v .counted))
         (v .lock)
         in
-        let m′ = afterWorker m (m .lock) (push a (m .buffer)) (m .since) (m .taken) PutStoreTail in
+        let m′ = afterWorker m (m .lock) (push a (m .buffer)) (m .spacing) PutStoreTail in
         let tail : workerTail m′ ≡ idx seen = pushed-workerTail a m cells ∙ seen-tail (v .buffer) in
         let filled : workerLoad m′ (idx seen) ≡ x =
         pushed-workerLoad a m (idx seen) cells
         ∙ ap (λ b. cond b x (workerLoad m (idx seen))) (eq-eqb (slotOf (m .sizes .slots) (idx seen)) (slotOf (m .sizes .slots) (idx seen)) refl)
         in
         pushes v Moved [] a PutStoreTail
-        (ap (λ i. done Moved (afterWorker m (m .lock) (push (slotStore i x) (m .buffer)) (m .since) (m .taken) PutStoreTail)) (sym (seen-tail (v .buffer))))
+        (ap (λ i. done Moved (afterWorker m (m .lock) (push (slotStore i x) (m .buffer)) (m .spacing) PutStoreTail)) (sym (seen-tail (v .buffer))))
         refl
         sound
         (λ g.
@@ -126,14 +130,14 @@ module _ {n : ℕ} {m : Machine} {p : ThiefCall} (q : PlainQueue) where
           unwritten = pushed-unwritten v room a bound (omega arith) (λ has. between seen x (omega (arith, g .count)) low no-store) (g .unwritten);
         }))
 
-    pub put-store-slot : StepTurn v q (putStoreSlot x m)
-    put-store-slot = decide (StepTurn v q) (hasRoom m) stores-slot (λ e. refused v Wait at refl refl)
+    pub put-store-slot : StepTurn v q (stepOfWorker m (PutStoreSlot x))
+    put-store-slot = decide (MoveTurn v q) (hasRoom m) stores-slot (λ e. stayed v Wait at refl refl)
 
   -- ── Step 3 ──────────────────────────────────────────────────────────────────────────────────────────────────────────────────
 
-  module _ (v : Sound n m PutStoreTail p) (at : m .worker .call ≡ PutStoreTail) where
+  module _ (v : Sound g n m PutStoreTail p) (at : m .worker .call ≡ PutStoreTail) where
     -- the task in the slot of the tail joins those that stand
-    stores-tail : hasRoom m ≡ true → StepTurn v q (workerAnswers Stored (pushed (tailStore (next (workerTail m))) m))
+    stores-tail : hasRoom m ≡ true → StepTurn v q (done Stored (withWorker WorkerCall.Idle (pushed (tailStore (next (workerTail m))) m)))
     stores-tail some-room =
         let room = ltb-true (m .buffer .count) (m .sizes .buffer) some-room in
         let cells = inside-cells (v .buffer) (v .sizes) room in
@@ -142,7 +146,7 @@ module _ {n : ℕ} {m : Machine} {p : ThiefCall} (q : PlainQueue) where
         let a = tailStore (idx (seen + 1)) in
         let x = workerLoad m (workerTail m) in
         let sound =
-        rebuilt v (m .lock) (push a (m .buffer)) (m .since) (m .taken) WorkerCall.Idle
+        rebuilt v (m .lock) (push a (m .buffer)) (m .spacing) WorkerCall.Idle
         (tail-raising v room (seen + 1) (omega arith) (omega arith))
         (record { holds-tail = tt; floor = omega arith; top = omega arith })
         (v .spaced)
@@ -150,7 +154,7 @@ module _ {n : ℕ} {m : Machine} {p : ThiefCall} (q : PlainQueue) where
         (v .lock)
         in
         pushes v Stored (toldPut x false ∷ []) a WorkerCall.Idle
-        (ap (λ i. done Stored (afterWorker m (m .lock) (push (tailStore i) (m .buffer)) (m .since) (m .taken) WorkerCall.Idle))
+        (ap (λ i. done Stored (afterWorker m (m .lock) (push (tailStore i) (m .buffer)) (m .spacing) WorkerCall.Idle))
         (sym (ap next (seen-tail (v .buffer)) ∙ idx-next seen)))
         refl
         sound
@@ -172,5 +176,5 @@ module _ {n : ℕ} {m : Machine} {p : ThiefCall} (q : PlainQueue) where
           unwritten = tail-unwritten v room (seen + 1) q g;
         }))
 
-    pub put-store-tail : StepTurn v q (putStoreTail m)
-    put-store-tail = decide (StepTurn v q) (hasRoom m) stores-tail (λ e. refused v Wait at refl refl)
+    pub put-store-tail : StepTurn v q (stepOfWorker m PutStoreTail)
+    put-store-tail = decide (MoveTurn v q) (hasRoom m) stores-tail (λ e. stayed v Wait at refl refl)

@@ -1,17 +1,24 @@
 -- The plain queue's replies, one for each way that a call can end; and its tasks, as the slots show them from an index on.
 use mathlib.Core.Path.{_≡_, refl, ap, sym, _∙_, subst}
-use mathlib.Core.Bool.{Bool, true, false}
+use mathlib.Core.Bool.{Bool, true, false, cond}
 use mathlib.Core.List.{List, [], _∷_, _++_, map}
 use Prim.Native.Nat.{ℕ, suc, _+_, _-_, _<_}
 use native.Mathlib.Omega.{arith}
 use lib.Dec.{ltb}
-use lib.ListN.{length, take, drop, List·getD-append, length-append, length-drop, length-take}
+use lib.ListN.{getD, length, take, drop, List·getD-append, length-append, length-drop, length-take}
 use lib.Seq.{drop-cons, drop-length, getD-append-seam, getD-drop, getD-take}
 use borrow.Author.Tests.{eq-eqb, ltb-false, ltb-true, ne-eqb}
+use Rattle.terms.specs.Lists.{rangeFrom, range}
+use Rattle.claim.specs.PlainQueue.{toldPut, toldTake, toldSteal, PlainQueue, Reply, StoredTask, joined, leaves, newest, respond, unchanged, withoutNewest}
 use Rattle.machine.specs.Types.{Task, Empty, Abort, Full, End}
-use Rattle.machine.specs.Lists.{upFrom, upTo}
-use Rattle.machine.specs.PlainQueue.{toldPut, toldTake, toldSteal, PlainQueue, Reply, StoredTask, joined, leaves, newest, respond, unchanged, withoutNewest}
-use Rattle.machine.proofs.Linearizable.Invariant.{Shows, taskAt}
+
+-- the task at a place of a list; beyond the list any will do
+abbrev pub taskAt : List StoredTask → ℕ → StoredTask
+taskAt l k = getD l k (record { put = 0; number = 0 })
+
+-- from index lo on, the loads are the tasks' numbers
+abbrev pub Shows : (ℕ → ℕ) → ℕ → List StoredTask → Type 0
+Shows load lo l = (k : ℕ) → k < length l → taskAt l k .number ≡ load (lo + k)
 
 -- ── Replies ─────────────────────────────────────────────────────────────────────────────────────────────────────────────────
 
@@ -34,8 +41,8 @@ module _ (q : PlainQueue) where
   abbrev pub gives : StoredTask → PlainQueue → Reply
   gives t after = record { queue = after; answer = Task (t .number); given = t ∷ [] }
 
-  abbrev pub afterTake : PlainQueue
-  afterTake = record { tasks = withoutNewest (q .tasks); sum = q .sum - 1; stored = q .stored }
+  abbrev pub afterTake : Bool → PlainQueue
+  afterTake swapped = record { tasks = withoutNewest (q .tasks); sum = cond swapped (q .sum) (q .sum - 1); stored = q .stored }
 
   abbrev pub afterSteal : PlainQueue
   afterSteal = record { tasks = drop 1 (q .tasks); sum = q .sum; stored = q .stored }
@@ -49,11 +56,11 @@ module _ (q : PlainQueue) where
   pub replies-stored : (x : ℕ) → (q .sum ≡ 2147483647 → ⊥) → joined x q ≡ respond q (toldPut x false)
   replies-stored x e = rw (ne-eqb (q .sum) 2147483647 e)
 
-  pub replies-taken : 0 < length (q .tasks) → gives (taskAt (q .tasks) (length (q .tasks) - 1)) afterTake ≡ respond q toldTake
-  replies-taken some = ap (λ l. leaves l afterTake q Empty) (newest-last (q .tasks) some)
+  pub replies-taken : (swapped : Bool) → 0 < length (q .tasks) → gives (taskAt (q .tasks) (length (q .tasks) - 1)) (afterTake swapped) ≡ respond q (toldTake swapped)
+  replies-taken swapped some = ap (λ l. leaves l (afterTake swapped) q Empty) (newest-last (q .tasks) some)
 
-  pub replies-empty : length (q .tasks) ≡ 0 → unchanged q Empty ≡ respond q toldTake
-  replies-empty none = ap (λ l. leaves (newest l) afterTake q Empty) (none-stands (q .tasks) none)
+  pub replies-empty : (swapped : Bool) → length (q .tasks) ≡ 0 → unchanged q Empty ≡ respond q (toldTake swapped)
+  replies-empty swapped none = ap (λ l. leaves (newest l) (afterTake swapped) q Empty) (none-stands (q .tasks) none)
 
   pub replies-stolen : 0 < length (q .tasks) → gives (taskAt (q .tasks) 0) afterSteal ≡ respond q (toldSteal false)
   replies-stolen some = ap (λ l. leaves l afterSteal q Abort) (oldest-first (q .tasks) some)
@@ -93,7 +100,7 @@ module _ (load : ℕ → ℕ) (lo : ℕ) (l : List StoredTask) (shows : Shows lo
       ap (λ a. a .number) (getD-drop 1 l k (record { put = 0; number = 0 })) ∙ shows (1 + k) within ∙ ap load (omega arith)
 
 -- .. as a list
-shows-from : (load : ℕ → ℕ) (j : ℕ) (l : List StoredTask) → Shows load j l → map (λ t. t .number) l ≡ map load (upFrom j (length l))
+shows-from : (load : ℕ → ℕ) (j : ℕ) (l : List StoredTask) → Shows load j l → map (λ t. t .number) l ≡ map load (rangeFrom j (length l))
 shows-from load j [] shows = refl
 shows-from load j (t ∷ l) shows =
     let first : j + 0 ≡ j = omega arith in
@@ -104,7 +111,7 @@ shows-from load j (t ∷ l) shows =
     further : (k : ℕ) → suc j + k ≡ j + suc k
     further k = omega arith
 
-pub shows-list : (load : ℕ → ℕ) (lo : ℕ) (l : List StoredTask) → Shows load lo l → map (λ t. t .number) l ≡ map (λ k. load (lo + k)) (upTo (length l))
+pub shows-list : (load : ℕ → ℕ) (lo : ℕ) (l : List StoredTask) → Shows load lo l → map (λ t. t .number) l ≡ map (λ k. load (lo + k)) (range (length l))
 shows-list load lo l shows = shows-from (λ k. load (lo + k)) 0 l (λ k h. shows k h ∙ ap (λ i. load (lo + i)) (zeroth k))
   where
     zeroth : (k : ℕ) → k ≡ 0 + k

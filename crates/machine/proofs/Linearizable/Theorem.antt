@@ -1,33 +1,34 @@
 -- Demand 3: from the fresh machine the invariant holds at every moment of a run, and it has every part of the claim.
 use mathlib.Core.Path.{_≡_, refl, ap, sym, _∙_, subst}
-use mathlib.Core.Bool.{Bool, true, false, cond, false≢true}
-use mathlib.Core.List.{List, [], _∷_, _++_, map}
+use mathlib.Core.Bool.{Bool, true, false≢true, cond}
+use mathlib.Core.List.{List, [], map, _∷_}
 use Prim.Native.Nat.{ℕ, zero, suc, _+_, _-_, _≤_, _<_, zero-le}
-use native.Mathlib.Nat.{not-suc-le-zero}
+use native.Mathlib.Nat.{le-refl, not-suc-le-zero}
 use native.Mathlib.Omega.{arith}
 use lib.IntN.{pos, _+ℤ_, _-ℤ_}
 use lib.ListN.{getD, length, replicate}
 use borrow.Author.Tests.{eq-eqb, le-leb}
-use Rattle.terms.specs.Sizes.{enoughMargin, sizesInRange}
-use Rattle.terms.specs.Outcome.{isAnswer}
-use Rattle.terms.proofs.Laws.Tests.{both-left, both-right}
-use Rattle.terms.proofs.Laws.Sizes.{SizeBounds, sizes-bounds}
-use Rattle.machine.specs.Types.{Entry, Holder, Nobody, TheWorker, TheThief, Machine, Sizes, ThiefCall, StealLock, StealLoadHead, StealRaiseHead, StealLoadTail, StealLoadSlot, StealUnlockTask, StealRestoreHead, StealUnlockAbort, WorkerCall, PutLoadHead, PutStoreSlot, PutStoreTail, TakeStoreTail, TakeLoadHead, TakeLoadSlot, TakeLock, TakeReloadHead, TakeRestoreTail, TakeUnlockEmpty, TakeUnlockTask, TakeLoadLastSlot}
-use Rattle.machine.specs.Lists.{all, upTo}
-use Rattle.machine.specs.Index.{indexInRange}
-use Rattle.machine.specs.Machine.{fresh, idleThief, thiefCall, workerLoad, workerTail}
-use Rattle.machine.specs.PlainQueue.{withinLimits}
-use Rattle.machine.specs.Effect.{Event, Party, worker, thief, Watch, callAt, eventAt, events, watchAfter, watchFresh, watched}
-use Rattle.machine.specs.Linearizable.{Demand3, answering, answersTo, isNothing, noCallRuns, owes, parties, standingInSlots, stepsUp, thiefOwes}
-use Rattle.machine.proofs.Laws.Lists.{all-map, all-upTo}
-use Rattle.machine.proofs.Laws.Index.{idx, idx-as, idx-in-range, idx-minus, idx-of, idx-plus}
-use Rattle.machine.proofs.Laws.Obey.{answers-at-steps}
-use Rattle.machine.proofs.Laws.Chain.{none}
-use Rattle.machine.proofs.Linearizable.Account.{account-noOther, account-once}
-use Rattle.machine.proofs.Linearizable.Invariant.{Exclusive, InPlace, Invariant, Sound, Shows, holds, lowered, outside, raised, stolen, thiefBegun, workerBegun}
-use Rattle.machine.proofs.Linearizable.Tasks.{shows-as, shows-list}
-use Rattle.machine.proofs.Linearizable.Rebuild.{seen-tail}
-use Rattle.machine.proofs.Linearizable.Run.{entry-keeps}
+use Rattle.terms.specs.Sizes.{enoughMargin, marginInUse, sizesInRange}
+use Rattle.terms.specs.Lists.{all, range}
+use Rattle.terms.proofs.Laws.Tests.{and-left, and-right}
+use Rattle.terms.proofs.Laws.Sizes.{SizeBounds, marginInUse-some, sizes-bounds}
+use Rattle.terms.proofs.Laws.Lists.{all-map, all-range}
+use Rattle.stores.specs.Index.{indexInRange}
+use Rattle.stores.proofs.Laws.Index.{idx, idx-as, idx-in-range, idx-minus, idx-of, idx-plus}
+use Rattle.stores.proofs.Laws.Chain.{none}
+use Rattle.stores.proofs.Laws.Pending.{seen-tail}
+use Rattle.claim.specs.PlainQueue.{PlainQueue, emptyQueue}
+use Rattle.claim.specs.Calls.{Begun, aSteal, Party, PartyCall, worker, thief, answersTo, isNothing, noCall, parties}
+use Rattle.claim.specs.Watch.{Watch, watchFresh, watched}
+use Rattle.claim.proofs.Theorem.{Shows, linearizes, run-keeps}
+use Rattle.machine.specs.Types.{Entry, Holder, Nobody, TheWorker, TheThief, Machine, Outcome, Abort, Sizes, ThiefCall, StealLock, StealLoadHead, StealRaiseHead, StealLoadTail, StealLoadSlot, StealUnlockTask, StealRestoreHead, StealUnlockAbort, WorkerCall, PutLoadHead, PutStoreSlot, PutStoreTail, TakeStoreTail, TakeLoadHead, TakeLoadSlot, TakeLock, TakeReloadHead, TakeRestoreTail, TakeUnlockEmpty, TakeUnlockTask, TakeLoadLastSlot}
+use Rattle.machine.specs.Thief.{idleThief}
+use Rattle.machine.specs.Machine.{fresh, thiefCall, workerLoad, workerTail}
+use Rattle.machine.specs.Linearizable.{Demand3, ffThe, owes, standingInSlots, stepsUp, thiefOwes}
+use Rattle.machine.proofs.Laws.Obey.{ffThe-lawful}
+use Rattle.machine.proofs.Linearizable.Invariant.{Exclusive, Environment, plainMemory, InPlace, Invariant, Sound, holds, lowered, outside, raised, stolen, thiefBegun, workerBegun}
+use Rattle.machine.proofs.Linearizable.Tasks.{shows-as, shows-list, Shows as ShowsTasks}
+use Rattle.machine.proofs.Linearizable.Plain.{Plain, entry-keeps}
 
 -- ── At first ────────────────────────────────────────────────────────────────────────────────────────────────────────────────
 
@@ -40,11 +41,17 @@ idle-at s i = sym (ap (λ t. t .call) (getD-all 8 i))
     getD-all (suc n) zero = refl
     getD-all (suc n) (suc i) = getD-all n i
 
-abbrev fresh-sound : (s : Sizes) → SizeBounds s → Sound 0 (fresh s) WorkerCall.Idle ThiefCall.Idle
-fresh-sound s b =
+-- memory at first, with the margin that thieves keep, and the calls that the plain queue is told of
+abbrev pub freshEnvironment : (Begun → Outcome → Bool) → ℕ → Sizes → Environment
+freshEnvironment isTold margin s = record { memory = plainMemory (fresh s); margin = margin; isTold = isTold }
+
+abbrev fresh-sound : (isTold : Begun → Outcome → Bool) (margin : ℕ) → 1 ≤ margin → (s : Sizes) → SizeBounds s → Sound (freshEnvironment isTold margin s) 0 (fresh s) WorkerCall.Idle ThiefCall.Idle
+fresh-sound isTold margin some s b =
     record {
       sizes = b;
       memory = refl;
+      margin-some = some;
+      slots-after = refl;
       buffer =
           record {
             landed = s .start + 1;
@@ -54,6 +61,7 @@ fresh-sound s b =
             owed = 0;
             bound = 0;
             tail-is = idx-of (s .start);
+            tail-after = refl;
             chain = none zero-le;
             few = zero-le;
             fits = zero-le;
@@ -75,8 +83,8 @@ fresh-sound s b =
       lock = (refl, refl);
     }
 
-pub fresh-invariant : (s : Sizes) → sizesInRange s ≡ true → Invariant s 0 (watchFresh s)
-fresh-invariant s ranged =
+pub fresh-invariant : (E : Type 0) (isTold : Begun → Outcome → Bool) (margin : ℕ) → 1 ≤ margin → (s : Sizes) → sizesInRange s ≡ true → Invariant E s 0 (freshEnvironment isTold margin s) (fresh s) (emptyQueue (s .start)) (λ p. noCall)
+fresh-invariant E isTold margin some s ranged =
     let count : s .start + 1 + 0 + 0 ≡ s .start + 1 + 0 = omega arith in
     let sum : s .start + 1 ≡ s .start + 1 + 0 = omega arith in
     let room : s .start + 1 + 0 + 0 ≤ s .start + 1 + s .slots = omega arith in
@@ -84,52 +92,24 @@ fresh-invariant s ranged =
       inside = ThiefCall.Idle;
       sizes-are = refl;
       long = refl;
-      sound = fresh-sound s (sizes-bounds s ranged);
+      sound = fresh-sound isTold margin some s (sizes-bounds s ranged);
       thieves = λ i. ap outside (sym (idle-at s i));
       agrees = λ enough.
-          record { count = count; sum = sum; room = room; below = zero-le; shows = λ k none. absurd (not-suc-le-zero none); unwritten = tt };
+          record { count = count; sum = sum; room = room; below = zero-le; shows = λ k none. absurd (not-suc-le-zero none); unwritten = λ has. absurd (omega arith) };
       worker-call = λ enough. record { begun = refl; answers = refl };
-      thief-call = λ enough i. record { begun = ap thiefBegun (idle-at s i); answers = ap (thiefOwes (fresh s)) (idle-at s i) };
+      thief-call = λ enough i. record { begun = ap thiefBegun (idle-at s i); answers = ap (thiefOwes (cond (isTold aSteal Abort) (Abort ∷ []) []) (fresh s)) (idle-at s i) };
     }
+
+-- .. with the margin in use
+pub fresh-plain : (s : Sizes) → sizesInRange s ≡ true → Plain s 0 (watchFresh ffThe s)
+fresh-plain s ranged =
+    fresh-invariant (enoughMargin s ≡ true) (λ begun answer. true) (marginInUse s) (marginInUse-some s (sizes-bounds s ranged .buffer-least)) s ranged
 
 -- ── Entry by entry ──────────────────────────────────────────────────────────────────────────────────────────────────────────
 
 -- the invariant at the end of a list
-pub run-invariant : (s : Sizes) (n : ℕ) (w : Watch) (es : List Entry) → Invariant s n w → Invariant s (n + length es) (watched w es)
-run-invariant s n w [] v = subst (λ k. Invariant s k w) (omega arith) v
-run-invariant s n w (e ∷ es) v =
-    let more : n + 1 + length es ≡ n + suc (length es) = omega arith in
-    subst (λ k. Invariant s k (watched w (e ∷ es))) more (run-invariant s (n + 1) (watchAfter w e) es (entry-keeps v e .next))
-
--- one event more, which has the plain queue's answer if it answers
-answering-more :
-    (v : Event) (h : List Event) → (isAnswer (v .outcome) ≡ true → answersTo (v .call) ≡ v .outcome ∷ [])
-    → map (λ v. answersTo (v .call)) (answering h) ≡ map (λ v. v .outcome ∷ []) (answering h)
-    → map (λ v. answersTo (v .call)) (answering (v ∷ h)) ≡ map (λ v. v .outcome ∷ []) (answering (v ∷ h))
-answering-more v h answers rest = go (isAnswer (v .outcome)) refl
-  where
-    go : (b : Bool) → isAnswer (v .outcome) ≡ b → map (λ v. answersTo (v .call)) (cond b (v ∷ []) [] ++ answering h) ≡ map (λ v. v .outcome ∷ []) (cond b (v ∷ []) [] ++ answering h)
-    go true answer = λ j. answers answer j ∷ rest j
-    go false silent = rest
-
-module _ (s : Sizes) (enough : enoughMargin s ≡ true) where
-  -- every answer is the plain queue's
-  run-answers : (n : ℕ) (w : Watch) (es : List Entry) → Invariant s n w → map (λ v. answersTo (v .call)) (answering (events w es)) ≡ map (λ v. v .outcome ∷ []) (answering (events w es))
-  run-answers n w [] v = refl
-  run-answers n w (e ∷ es) v =
-      answering-more (eventAt w e) (events (watchAfter w e) es)
-      (λ answer. ap answersTo (answers-at-steps (w .machine) e (callAt w e) answer) ∙ entry-keeps v e .answers enough answer)
-      (run-answers (n + 1) (watchAfter w e) es (entry-keeps v e .next))
-
-  -- whatever the plain queue is told, it is told within its limits
-  run-limits : (n : ℕ) (w : Watch) (es : List Entry) → Invariant s n w → all (λ v. all (withinLimits (s .slots) (v .queue)) (v .told)) (events w es) ≡ true
-  run-limits n w [] v = refl
-  run-limits n w (e ∷ es) v = rw (entry-keeps v e .limits enough) (run-limits (n + 1) (watchAfter w e) es (entry-keeps v e .next))
-
-  -- every party owes what the plain queue has answered to it
-  owed : {n : ℕ} {w : Watch} → Invariant s n w → (p : Party) → answersTo (w .calls p) ≡ owes (w .machine) p
-  owed v worker = v .worker-call enough .answers
-  owed v (thief i) = v .thief-call enough i .answers
+pub run-invariant : (s : Sizes) (n : ℕ) (w : Watch Machine) (es : List Entry) → Plain s n w → Plain s (n + length es) (watched ffThe w es)
+run-invariant s n w es = run-keeps ffThe (n + length es) (Plain s) (λ n w short v e. entry-keeps v e .next) n w es (le-refl (n + length es))
 
 -- ── Where no call runs ──────────────────────────────────────────────────────────────────────────────────────────────────────
 
@@ -169,72 +149,73 @@ nobody-inside (TheThief i) working k p call x place idle =
     let here = subst (λ b. InPlace b k i p (call i)) (eq-eqb i i refl) (place i) in
     absurd (false≢true (sym (x .1) ∙ ap outside (sym (here .0)) ∙ idle-outside (call i) (idle i (here .1))))
 
-module _ {s : Sizes} {n : ℕ} {w : Watch} (v : Invariant s n w) (enough : enoughMargin s ≡ true) (quiet : noCallRuns s w ≡ true) where
-  worker-idle : isNothing (workerBegun (w .machine) (w .machine .worker .call)) ≡ true
+module _ {E : Type 0} {s : Sizes} {n : ℕ} {g : Environment} {m : Machine} {q : PlainQueue} {cs : Party → PartyCall} (v : Invariant E s n g m q cs) (enough : E) (quiet : all (λ p. isNothing (cs p .begun)) (parties s) ≡ true) where
+  worker-idle : isNothing (workerBegun (m) (m .worker .call)) ≡ true
   worker-idle =
       ap isNothing (sym (v .worker-call enough .begun))
-      ∙ both-left (isNothing (w .calls worker .begun)) (all (λ p. isNothing (w .calls p .begun)) (map thief (upTo (s .thieves)))) quiet
+      ∙ and-left (isNothing (cs worker .begun)) (all (λ p. isNothing (cs p .begun)) (map thief (range (s .thieves)))) quiet
 
-  thief-idle : (i : ℕ) → i < w .machine .sizes .thieves → isNothing (thiefBegun (thiefCall (w .machine) i)) ≡ true
+  thief-idle : (i : ℕ) → i < m .sizes .thieves → isNothing (thiefBegun (thiefCall (m) i)) ≡ true
   thief-idle i there =
       ap isNothing (sym (v .thief-call enough i .begun))
-      ∙ all-upTo (λ i. isNothing (w .calls (thief i) .begun)) (s .thieves) i
-      (sym (all-map thief (λ p. isNothing (w .calls p .begun)) (λ i. refl) (upTo (s .thieves)))
-      ∙ both-right (isNothing (w .calls worker .begun)) (all (λ p. isNothing (w .calls p .begun)) (map thief (upTo (s .thieves)))) quiet)
+      ∙ all-range (λ i. isNothing (cs (thief i) .begun)) (s .thieves) i
+      (sym (all-map thief (λ p. isNothing (cs p .begun)) (λ i. refl) (range (s .thieves)))
+      ∙ and-right (isNothing (cs worker .begun)) (all (λ p. isNothing (cs p .begun)) (map thief (range (s .thieves)))) quiet)
       (subst (λ s. i < s .thieves) (v .sizes-are) there)
 
   alone : v .inside ≡ ThiefCall.Idle
-  alone = nobody-inside (w .machine .lock .holder) _ (w .machine .sizes .thieves) (v .inside) (thiefCall (w .machine)) (v .sound .lock) (v .thieves) thief-idle
+  alone = nobody-inside (m .lock .holder) _ (m .sizes .thieves) (v .inside) (thiefCall (m)) (v .sound .lock) (v .thieves) thief-idle
 
-  level : lowered (w .machine .worker .call) ≡ 0
-  level = idle-worker (w .machine) (w .machine .worker .call) worker-idle
+  level : lowered (m .worker .call) ≡ 0
+  level = idle-worker (m) (m .worker .call) worker-idle
 
   -- so head is the oldest task's index, and the worker's tail is the queue's
-  head-lo : w .machine .head ≡ idx (v .sound .head .lo)
+  head-lo : m .head ≡ idx (v .sound .head .lo)
   head-lo =
       let lo = v .sound .head .lo in
       idx-as (lo + (raised (v .inside) + stolen (v .inside))) lo (v .sound .head .head-is) (omega (arith, ap raised alone, ap stolen alone))
 
-  steps-many : stepsUp (workerTail (w .machine) .at -ℤ w .machine .head .at) ≡ length (w .queue .tasks)
+  steps-many : stepsUp (workerTail (m) .at -ℤ m .head .at) ≡ length (q .tasks)
   steps-many =
       let g = v .agrees enough in
       let seen = v .sound .buffer .seen in
       let lo = v .sound .head .lo in
-      let many : seen - lo ≡ length (w .queue .tasks) = omega (arith, g .count, ap stolen alone, level) in
+      let many : seen - lo ≡ length (q .tasks) = omega (arith, g .count, ap stolen alone, level) in
       (λ j. stepsUp (seen-tail (v .sound .buffer) j .at -ℤ head-lo j .at))
       ∙ ap stepsUp (idx-minus seen lo (omega (arith, v .sound .head .floor)) (omega (arith, g .count, level)))
       ∙ many
 
-  load-lo : (k : ℕ) → workerLoad (w .machine) (record { at = w .machine .head .at +ℤ pos k }) ≡ workerLoad (w .machine) (idx (v .sound .head .lo + k))
+  load-lo : (k : ℕ) → workerLoad (m) (record { at = m .head .at +ℤ pos k }) ≡ workerLoad (m) (idx (v .sound .head .lo + k))
   load-lo k =
-      ap (λ i. workerLoad (w .machine) (record { at = i .at +ℤ pos k })) head-lo ∙ ap (workerLoad (w .machine)) (idx-plus (v .sound .head .lo) k)
+      ap (λ i. workerLoad (m) (record { at = i .at +ℤ pos k })) head-lo ∙ ap (workerLoad (m)) (idx-plus (v .sound .head .lo) k)
 
-  shown : Shows (λ k. workerLoad (w .machine) (idx k)) (v .sound .head .lo) (w .queue .tasks)
+  shown : ShowsTasks (λ k. workerLoad (m) (idx k)) (v .sound .head .lo) (q .tasks)
   shown =
       let lo = v .sound .head .lo in
-      shows-as (λ k. workerLoad (w .machine) (idx k)) (lo + stolen (v .inside)) (w .queue .tasks) (v .agrees enough .shows) lo (omega (arith, ap stolen alone))
+      shows-as (λ k. workerLoad (m) (idx k)) (lo + stolen (v .inside)) (q .tasks) (v .agrees enough .shows) lo (omega (arith, ap stolen alone))
 
   -- the slots from head on show the tasks that stand
-  standing : map (λ t. t .number) (w .queue .tasks) ≡ standingInSlots (w .machine)
+  pub standing : map (λ t. t .number) (q .tasks) ≡ standingInSlots (m)
   standing =
-      shows-list (λ k. workerLoad (w .machine) (idx k)) (v .sound .head .lo) (w .queue .tasks) shown
-      ∙ sym (λ j. map (λ k. load-lo k j) (upTo (steps-many j)))
+      shows-list (λ k. workerLoad (m) (idx k)) (v .sound .head .lo) (q .tasks) shown
+      ∙ sym (λ j. map (λ k. load-lo k j) (range (steps-many j)))
 
 -- ── The claim ───────────────────────────────────────────────────────────────────────────────────────────────────────────────
 
-pub demand3 : Demand3
-demand3 s es ranged enough short =
-    let fresh = fresh-invariant s ranged in
-    let v = run-invariant s 0 (watchFresh s) es fresh in
-    let answers = run-answers s enough 0 (watchFresh s) es fresh in
-    let held : map (λ p. answersTo (watched (watchFresh s) es .calls p)) (parties s) ≡ map (owes (watched (watchFresh s) es .machine)) (parties s) =
-    λ j. map (λ p. owed s enough v p j) (parties s)
-    in
+-- every party owes what the plain queue has answered to it
+owed : {s : Sizes} {n : ℕ} {w : Watch Machine} → enoughMargin s ≡ true → Plain s n w → (p : Party) → answersTo (w .calls p) ≡ owes (w .machine) p
+owed enough v worker = v .worker-call enough .answers
+owed enough v (thief i) = v .thief-call enough i .answers
+
+invariant-shows : (s : Sizes) → enoughMargin s ≡ true → Shows ffThe s 4096 (Plain s)
+invariant-shows s enough =
     record {
-      answers = answers;
-      held = held;
-      limits = run-limits s enough 0 (watchFresh s) es fresh;
-      once = account-once s es;
-      noOther = account-noOther s es answers held;
-      standing = λ quiet. standing v enough quiet;
+      keeps = λ n w short v e. entry-keeps v e .next;
+      limits = λ n w v e. entry-keeps v e .limits enough;
+      answers = λ n w v e. entry-keeps v e .answers enough;
+      owed = λ n w v p. owed enough v p;
+      standing = λ n w v quiet. standing v enough quiet;
     }
+
+pub demand3 : Demand3
+demand3 s es ranged enough short = linearizes ffThe-lawful (invariant-shows s enough) es short (fresh-plain s ranged)

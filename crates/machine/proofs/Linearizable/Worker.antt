@@ -1,31 +1,36 @@
 -- Each entry of the worker's, apart from a drain, keeps the invariant: the steps of its calls, client stores, and beginnings.
 use mathlib.Core.Path.{_≡_, refl, ap, sym, _∙_, subst}
-use mathlib.Core.Bool.{Bool, true, false, cond, _&&_}
+use mathlib.Core.Bool.{true, false, cond}
 use mathlib.Core.List.{[]}
-use Prim.Native.Nat.{ℕ, _+_, _-_, _≤_}
+use Prim.Native.Nat.{ℕ, _+_, _-_}
 use native.Mathlib.Omega.{arith}
-use lib.Dec.{ltb}
-use borrow.Author.Tests.{ltb-false, ltb-true}
+use borrow.Author.Tests.{ltb-true}
 use Rattle.terms.proofs.Laws.Tests.{decide}
+use Rattle.stores.specs.Spacing.{counted, takeBegins, tooEarly}
+use Rattle.stores.specs.StoreBuffer.{clientStore, push}
+use Rattle.stores.proofs.Laws.Chain.{client, no-store, none as no-link, past-client}
+use Rattle.stores.proofs.Laws.Spacing.{counted-asked, counted-most, not-early}
+use Rattle.stores.proofs.Laws.Pending.{pushing}
+use Rattle.claim.specs.PlainQueue.{PlainQueue}
+use Rattle.claim.specs.Calls.{none}
+use Rattle.claim.proofs.Turn.{moves}
 use Rattle.machine.specs.Types.{Done, Entry, ClientStore, BeginPut, BeginTake, Machine, Moved, Place, Early, Wait, ThiefCall, WorkerCall, PutLoadHead, PutStoreSlot, PutStoreTail, TakeStoreTail, TakeLoadHead, TakeLoadSlot, TakeLock, TakeReloadHead, TakeRestoreTail, TakeUnlockEmpty, TakeUnlockTask, TakeLoadLastSlot}
-use Rattle.machine.specs.StoreBuffer.{clientStore, push}
 use Rattle.machine.specs.Machine.{done, hasRoom, needing}
 use Rattle.machine.specs.Update.{pushed, withSpacing}
-use Rattle.machine.specs.PlainQueue.{PlainQueue}
-use Rattle.machine.specs.Worker.{beginPut, beginTake, countedStore, makeClientStore, stepOfWorker, tooEarly, unlessWorkerRuns, workerGoesOn, workerRuns}
-use Rattle.machine.specs.Effect.{none}
-use Rattle.machine.proofs.Laws.Chain.{client, no-store, none as no-link, past-client}
-use Rattle.machine.proofs.Linearizable.Invariant.{AgreesOn, Sound, asked, stolen}
-use Rattle.machine.proofs.Linearizable.Turn.{StepTurn, WorkerTurn, moves, afterWorker}
-use Rattle.machine.proofs.Linearizable.Rebuild.{agrees-call, pushed-shows, pushed-unwritten, pushing, rebuilt, recalled, recalls, refused}
+use Rattle.machine.specs.Worker.{workerRuns}
+use Rattle.machine.specs.Entries.{beginPut, beginTake, makeClientStore, unlessWorkerRuns, workerGoesOn}
+use Rattle.machine.specs.Perform.{stepOfWorker}
+use Rattle.machine.proofs.Linearizable.Invariant.{Environment, AgreesOn, Sound, stolen}
+use Rattle.machine.proofs.Linearizable.Turn.{StepTurn, WorkerTurn, afterWorker}
+use Rattle.machine.proofs.Linearizable.Rebuild.{agrees-call, pushed-shows, pushed-unwritten, rebuilt, recalled, recalls, refused, stayed}
 use Rattle.machine.proofs.Linearizable.Put.{put-load-head, put-store-slot, put-store-tail}
 use Rattle.machine.proofs.Linearizable.Take.{take-load-head, take-load-last-slot, take-load-slot, take-lock, take-reload-head, take-restore-tail, take-store-tail, take-unlock-empty, take-unlock-task}
 
 -- ── The next step of the worker's call ──────────────────────────────────────────────────────────────────────────────────────
 
-module _ {n : ℕ} {m : Machine} {p : ThiefCall} (q : PlainQueue) where
-  pub worker-step : (c : WorkerCall) (v : Sound n m c p) → m .worker .call ≡ c → StepTurn v q (stepOfWorker m c)
-  worker-step WorkerCall.Idle v at = refused v Place at refl refl
+module _ {g : Environment} {n : ℕ} {m : Machine} {p : ThiefCall} (q : PlainQueue) where
+  pub worker-step : (c : WorkerCall) (v : Sound g n m c p) → m .worker .call ≡ c → StepTurn v q (stepOfWorker m c)
+  worker-step WorkerCall.Idle v at = stayed v Place at refl refl
   worker-step (PutLoadHead x) v at = put-load-head q x v
   worker-step (PutStoreSlot x) v at = put-store-slot q x v at
   worker-step PutStoreTail v at = put-store-tail q v at
@@ -39,35 +44,19 @@ module _ {n : ℕ} {m : Machine} {p : ThiefCall} (q : PlainQueue) where
   worker-step (TakeUnlockTask t) v at = take-unlock-task q t v at
   worker-step (TakeLoadLastSlot t) v at = take-load-last-slot q t v
 
--- ── The spacing rule ────────────────────────────────────────────────────────────────────────────────────────────────────────
-
--- with one client store more, one store less is due, and one client store less is asked for
-counted-asked : (taken : Bool) (since spacing owed : ℕ) → owed ≤ asked taken spacing since → owed - 1 ≤ asked taken spacing (cond taken (since + 1) 0)
-counted-asked true since spacing owed h = omega arith
-counted-asked false since spacing owed h = omega arith
-
-counted-since : (taken : Bool) (since n : ℕ) → since ≤ n → cond taken (since + 1) 0 ≤ n + 1
-counted-since true since n h = omega arith
-counted-since false since n h = omega arith
-
--- where a take is not too early, no client store is asked for
-not-early : (taken : Bool) (since spacing owed : ℕ) → (taken && ltb since spacing) ≡ false → owed ≤ asked taken spacing since → owed ≤ 0
-not-early true since spacing owed late h = omega (arith, ltb-false since spacing late)
-not-early false since spacing owed late h = h
-
 -- ── Client stores and beginnings ────────────────────────────────────────────────────────────────────────────────────────────
 
-module _ {n : ℕ} {m : Machine} {p : ThiefCall} (q : PlainQueue) where
-  -- an entry of which nothing is heard, and which takes no effect
-  abbrev Quiet : {c : WorkerCall} → Sound n m c p → Entry → Done → Type 0
+module _ {g : Environment} {n : ℕ} {m : Machine} {p : ThiefCall} (q : PlainQueue) where
+  -- an entry that takes no effect, of which the plain queue is told nothing
+  abbrev Quiet : {c : WorkerCall} → Sound g n m c p → Entry → Done → Type 0
   Quiet v e d = WorkerTurn v q e (λ o. none) d
 
   -- it needs the worker to have no call
-  module _ (e : Entry) (d : Done) (idle : (v : Sound n m WorkerCall.Idle p) → m .worker .call ≡ WorkerCall.Idle → Quiet v e d) where
-    runs : (c : WorkerCall) (v : Sound n m c p) → m .worker .call ≡ c → workerRuns c ≡ true → Quiet v e (unlessWorkerRuns m d)
+  module _ (e : Entry) (d : Done) (idle : (v : Sound g n m WorkerCall.Idle p) → m .worker .call ≡ WorkerCall.Idle → Quiet v e d) where
+    runs : (c : WorkerCall) (v : Sound g n m c p) → m .worker .call ≡ c → workerRuns c ≡ true → Quiet v e (unlessWorkerRuns m d)
     runs c v at running = subst (λ b. Quiet v e (cond b (done Place m) d)) (sym (ap workerRuns at ∙ running)) (refused v Place at refl refl)
 
-    unless-runs : (c : WorkerCall) (v : Sound n m c p) → m .worker .call ≡ c → Quiet v e (unlessWorkerRuns m d)
+    unless-runs : (c : WorkerCall) (v : Sound g n m c p) → m .worker .call ≡ c → Quiet v e (unlessWorkerRuns m d)
     unless-runs WorkerCall.Idle v at = subst (λ b. Quiet v e (cond b (done Place m) d)) (sym (ap workerRuns at)) (idle v at)
     unless-runs (PutLoadHead x) v at = runs (PutLoadHead x) v at refl
     unless-runs (PutStoreSlot x) v at = runs (PutStoreSlot x) v at refl
@@ -82,18 +71,17 @@ module _ {n : ℕ} {m : Machine} {p : ThiefCall} (q : PlainQueue) where
     unless-runs (TakeUnlockTask t) v at = runs (TakeUnlockTask t) v at refl
     unless-runs (TakeLoadLastSlot t) v at = runs (TakeLoadLastSlot t) v at refl
 
-  module _ (v : Sound n m WorkerCall.Idle p) (at : m .worker .call ≡ WorkerCall.Idle) where
-    stores : hasRoom m ≡ true → Quiet v ClientStore (done Moved (countedStore (pushed clientStore m)))
+  module _ (v : Sound g n m WorkerCall.Idle p) (at : m .worker .call ≡ WorkerCall.Idle) where
+    stores : hasRoom m ≡ true → Quiet v ClientStore (done Moved (withSpacing (counted (m .spacing)) (pushed clientStore m)))
     stores some-room =
         let room = ltb-true (m .buffer .count) (m .sizes .buffer) some-room in
-        let since = cond (m .taken) (m .since + 1) 0 in
         let sound =
-        rebuilt v (m .lock) (push clientStore (m .buffer)) since (m .taken) WorkerCall.Idle
+        rebuilt v (m .lock) (push clientStore (m .buffer)) (counted (m .spacing)) WorkerCall.Idle
         (pushing (v .buffer) (v .sizes) room clientStore (v .buffer .bound) 0 (v .buffer .owed - 1) (v .buffer .seen) (omega arith) refl
         (λ c few. client (no-link (omega arith))))
         (v .tail)
-        (counted-asked (m .taken) (m .since) (m .sizes .spacing) (v .buffer .owed) (v .spaced))
-        (counted-since (m .taken) (m .since) n (v .counted))
+        (counted-asked (m .spacing) (m .sizes .spacing) (v .buffer .owed) (v .spaced))
+        (counted-most (m .spacing) n (v .counted))
         (v .lock)
         in
         record {
@@ -101,10 +89,9 @@ module _ {n : ℕ} {m : Machine} {p : ThiefCall} (q : PlainQueue) where
           told = [];
           lock = m .lock;
           buffer = push clientStore (m .buffer);
-          since = since;
-          taken = m .taken;
+          spacing = counted (m .spacing);
           call = WorkerCall.Idle;
-          is = ap (λ c. done Moved (afterWorker m (m .lock) (push clientStore (m .buffer)) since (m .taken) c)) (sym at);
+          is = ap (λ c. done Moved (afterWorker m (m .lock) (push clientStore (m .buffer)) (counted (m .spacing)) c)) (sym at);
           told-is = refl;
           holder = λ i. refl;
           sound = sound;
@@ -120,7 +107,7 @@ module _ {n : ℕ} {m : Machine} {p : ThiefCall} (q : PlainQueue) where
               });
         }
 
-    idle-store : Quiet v ClientStore (needing (hasRoom m) m (done Moved (countedStore (pushed clientStore m))))
+    idle-store : Quiet v ClientStore (needing (hasRoom m) m (done Moved (withSpacing (counted (m .spacing)) (pushed clientStore m))))
     idle-store = decide (Quiet v ClientStore) (hasRoom m) stores (λ e. refused v Wait at refl refl)
 
     idle-put : (x : ℕ) → Quiet v (BeginPut x) (workerGoesOn (PutLoadHead x) m)
@@ -130,36 +117,35 @@ module _ {n : ℕ} {m : Machine} {p : ThiefCall} (q : PlainQueue) where
         (λ g. moves refl refl (agrees-call refl (g .room) g))
 
     -- the client stores are counted from here, and none is due before the take's own store
-    begins : tooEarly m ≡ false → Quiet v BeginTake (workerGoesOn TakeStoreTail (withSpacing 0 true m))
+    begins : tooEarly (m .spacing) (m .sizes .spacing) ≡ false → Quiet v BeginTake (workerGoesOn TakeStoreTail (withSpacing takeBegins m))
     begins late =
         record {
           outcome = Moved;
           told = [];
           lock = m .lock;
           buffer = m .buffer;
-          since = 0;
-          taken = true;
+          spacing = takeBegins;
           call = TakeStoreTail;
           is = refl;
           told-is = refl;
           holder = λ i. refl;
           sound =
-              rebuilt v (m .lock) (m .buffer) 0 true TakeStoreTail (v .buffer)
+              rebuilt v (m .lock) (m .buffer) takeBegins TakeStoreTail (v .buffer)
               (record { holds-tail = tt; floor = v .tail .floor; top = v .tail .top })
-              (not-early (m .taken) (m .since) (m .sizes .spacing) (v .buffer .owed) late (v .spaced), omega arith)
+              (not-early (m .spacing) (m .sizes .spacing) (v .buffer .owed) late (v .spaced), omega arith)
               (omega arith)
               (v .lock);
           turn = λ g. moves refl refl (agrees-call refl (g .room) g);
         }
 
-    idle-take : Quiet v BeginTake (cond (tooEarly m) (done Early m) (workerGoesOn TakeStoreTail (withSpacing 0 true m)))
-    idle-take = decide (Quiet v BeginTake) (tooEarly m) (λ e. refused v Early at refl refl) begins
+    idle-take : Quiet v BeginTake (cond (tooEarly (m .spacing) (m .sizes .spacing)) (done Early m) (workerGoesOn TakeStoreTail (withSpacing takeBegins m)))
+    idle-take = decide (Quiet v BeginTake) (tooEarly (m .spacing) (m .sizes .spacing)) (λ e. refused v Early at refl refl) begins
 
-  pub client-store : (c : WorkerCall) (v : Sound n m c p) → m .worker .call ≡ c → Quiet v ClientStore (makeClientStore m)
+  pub client-store : (c : WorkerCall) (v : Sound g n m c p) → m .worker .call ≡ c → Quiet v ClientStore (makeClientStore m)
   client-store = unless-runs ClientStore _ idle-store
 
-  pub begin-put : (x : ℕ) (c : WorkerCall) (v : Sound n m c p) → m .worker .call ≡ c → Quiet v (BeginPut x) (beginPut x m)
+  pub begin-put : (x : ℕ) (c : WorkerCall) (v : Sound g n m c p) → m .worker .call ≡ c → Quiet v (BeginPut x) (beginPut x m)
   begin-put x = unless-runs (BeginPut x) _ (λ v at. idle-put v at x)
 
-  pub begin-take : (c : WorkerCall) (v : Sound n m c p) → m .worker .call ≡ c → Quiet v BeginTake (beginTake m)
+  pub begin-take : (c : WorkerCall) (v : Sound g n m c p) → m .worker .call ≡ c → Quiet v BeginTake (beginTake m)
   begin-take = unless-runs BeginTake _ idle-take

@@ -11,9 +11,9 @@ use lib.ListN.{getD, length, length-map}
 use borrow.Author.Tests.{leb-true}
 use Rattle.terms.specs.Sizes.{checkSizes, firstFault, noFault, rangesKept, sizesInRange, within}
 use Rattle.terms.proofs.Laws.Sizes.{kept-at}
-use Rattle.terms.proofs.Laws.Tests.{both-right, cond-map}
-use Rattle.machine.specs.Lists.{upFrom, upTo}
-use Rattle.machine.proofs.Laws.Sums.{length-upTo, upTo-suc}
+use Rattle.terms.proofs.Laws.Tests.{and-right, cond-map}
+use Rattle.terms.specs.Lists.{rangeFrom, range}
+use Rattle.terms.proofs.Laws.Sums.{length-range, range-suc}
 use Rattle.schedule.specs.Types.{AllInRange, Check, Failed, OutOfRange, Passed, Refusal, Size, SizeCheck, Sizes}
 use Rattle.schedule.specs.Check.{checkRanges, failIf, first, sizeRefusal, sizesKept}
 
@@ -32,7 +32,7 @@ pub failIf-failed : (fault : Bool) (q : Refusal) {r : Refusal} → failIf fault 
 failIf-failed true q e = (refl, cc)
 failIf-failed false q e = absurd (not-both (sym e))
 
--- where none failed, each passed; and what is told, one of them failed with
+-- where none failed, each passed; and the refusal that is given, one of them failed with
 
 pub first-passed : (l : List Check) → first l ≡ Passed → (i : ℕ) → getD l i Passed ≡ Passed
 first-passed [] e i = refl
@@ -64,55 +64,55 @@ first-one (Failed r) = refl
 -- ── A check at each number below a bound ────────────────────────────────────────────────────────────────────────────────────
 
 -- m + j numbers from k up: m of them, then j
-upFrom-add : (k m j : ℕ) → upFrom k (m + j) ≡ upFrom k m ++ upFrom (k + m) j
-upFrom-add k zero j = rw (zero-add, add-zero)
-upFrom-add k (suc m) j =
+rangeFrom-add : (k m j : ℕ) → rangeFrom k (m + j) ≡ rangeFrom k m ++ rangeFrom (k + m) j
+rangeFrom-add k zero j = rw (zero-add, add-zero)
+rangeFrom-add k (suc m) j =
     let more : suc m + j ≡ suc (m + j) = omega arith in
     let from : suc k + m ≡ k + suc m = omega arith in
-    rw more (ap (λ l. k ∷ l) (upFrom-add (suc k) m j ∙ ap (λ n. upFrom (suc k) m ++ upFrom n j) from))
+    rw more (ap (λ l. k ∷ l) (rangeFrom-add (suc k) m j ∙ ap (λ n. rangeFrom (suc k) m ++ rangeFrom n j) from))
 
 -- what a function makes of the number at a place
-getD-map-upFrom : {A : Type 0} (f : ℕ → A) (d : A) (k n i : ℕ) → i < n → getD (map f (upFrom k n)) i d ≡ f (k + i)
-getD-map-upFrom f d k zero i h = absurd (not-suc-le-zero h)
-getD-map-upFrom f d k (suc n) zero h = rw add-zero
-getD-map-upFrom f d k (suc n) (suc i) h = getD-map-upFrom f d (suc k) n i (le-of-suc-le-suc h) ∙ ap f (omega arith)
+getD-map-rangeFrom : {A : Type 0} (f : ℕ → A) (d : A) (k n i : ℕ) → i < n → getD (map f (rangeFrom k n)) i d ≡ f (k + i)
+getD-map-rangeFrom f d k zero i h = absurd (not-suc-le-zero h)
+getD-map-rangeFrom f d k (suc n) zero h = rw add-zero
+getD-map-rangeFrom f d k (suc n) (suc i) h = getD-map-rangeFrom f d (suc k) n i (le-of-suc-le-suc h) ∙ ap f (omega arith)
 
 module _ (f : ℕ → Check) where
-  at-upTo : (n i : ℕ) → i < n → getD (map f (upTo n)) i Passed ≡ f i
-  at-upTo n i h = getD-map-upFrom f Passed 0 n i h ∙ ap f (zero-add i)
+  at-range : (n i : ℕ) → i < n → getD (map f (range n)) i Passed ≡ f i
+  at-range n i h = getD-map-rangeFrom f Passed 0 n i h ∙ ap f (zero-add i)
 
   -- there are as many checks as numbers
-  length-checks : (n : ℕ) → length (map f (upTo n)) ≡ n
-  length-checks n = length-map (upTo n) f ∙ length-upTo n
+  length-checks : (n : ℕ) → length (map f (range n)) ≡ n
+  length-checks n = length-map (range n) f ∙ length-range n
 
-  -- where none failed, each passed; and what is told, one of them failed with
+  -- where none failed, each passed; and the refusal that is given, one of them failed with
 
-  pub upTo-passed : (n : ℕ) → first (map f (upTo n)) ≡ Passed → (i : ℕ) → i < n → f i ≡ Passed
-  upTo-passed n e i h = sym (at-upTo n i h) ∙ first-passed (map f (upTo n)) e i
+  pub range-passed : (n : ℕ) → first (map f (range n)) ≡ Passed → (i : ℕ) → i < n → f i ≡ Passed
+  range-passed n e i h = sym (at-range n i h) ∙ first-passed (map f (range n)) e i
 
-  pub upTo-failed : (n : ℕ) (r : Refusal) → first (map f (upTo n)) ≡ Failed r → (i : ℕ) × ((i < n) × (f i ≡ Failed r))
-  upTo-failed n r e =
-      let found = first-failed (map f (upTo n)) r e in
+  pub range-failed : (n : ℕ) (r : Refusal) → first (map f (range n)) ≡ Failed r → (i : ℕ) × ((i < n) × (f i ≡ Failed r))
+  range-failed n r e =
+      let found = first-failed (map f (range n)) r e in
       let below : found .0 < n = omega (arith, length-checks n, found .1 .0) in
-      (found .0, (below, sym (at-upTo n (found .0) below) ∙ found .1 .1))
+      (found .0, (below, sym (at-range n (found .0) below) ∙ found .1 .1))
 
   -- a loop's turn: where all before passed, one more decides
-  pub first-more : (i : ℕ) → first (map f (upTo i)) ≡ Passed → first (map f (upTo (i + 1))) ≡ f i
+  pub first-more : (i : ℕ) → first (map f (range i)) ≡ Passed → first (map f (range (i + 1))) ≡ f i
   first-more i e =
-      ap (λ l. first (map f l)) (upTo-suc i)
-      ∙ ap first (map-append f (upTo i) (i ∷ []))
-      ∙ first-append (map f (upTo i)) (f i ∷ []) e
+      ap (λ l. first (map f l)) (range-suc i)
+      ∙ ap first (map-append f (range i) (i ∷ []))
+      ∙ first-append (map f (range i)) (f i ∷ []) e
       ∙ first-one (f i)
 
   -- .. and if it fails, it is the first of all
-  pub first-stops : (n i : ℕ) (r : Refusal) → i < n → first (map f (upTo i)) ≡ Passed → f i ≡ Failed r → first (map f (upTo n)) ≡ Failed r
+  pub first-stops : (n i : ℕ) (r : Refusal) → i < n → first (map f (range i)) ≡ Passed → f i ≡ Failed r → first (map f (range n)) ≡ Failed r
   first-stops n i r h e fails =
       let rest = le-dest h in
-      let front : first (map f (upTo (suc i))) ≡ Failed r = rw add-one at (first-more i e ∙ fails) in
-      ap (λ k. first (map f (upTo k))) (sym (rest .1))
-      ∙ ap (λ l. first (map f l)) (upFrom-add 0 (suc i) (rest .0))
-      ∙ ap first (map-append f (upTo (suc i)) (upFrom (0 + suc i) (rest .0)))
-      ∙ first-append-failed (map f (upTo (suc i))) (map f (upFrom (0 + suc i) (rest .0))) r front
+      let front : first (map f (range (suc i))) ≡ Failed r = rw add-one at (first-more i e ∙ fails) in
+      ap (λ k. first (map f (range k))) (sym (rest .1))
+      ∙ ap (λ l. first (map f l)) (rangeFrom-add 0 (suc i) (rest .0))
+      ∙ ap first (map-append f (range (suc i)) (rangeFrom (0 + suc i) (rest .0)))
+      ∙ first-append-failed (map f (range (suc i))) (map f (rangeFrom (0 + suc i) (rest .0))) r front
 
 -- ── Sizes ───────────────────────────────────────────────────────────────────────────────────────────────────────────────────
 
@@ -143,7 +143,7 @@ module _ (s : Sizes) (entries : ℕ) where
       ap sizeRefusal (fault-append 0 (rangesKept s) (within 0 4096 entries ∷ []) e)
       ∙ sym (cond-map sizeRefusal (within 0 4096 entries) refl refl)
 
--- the test that is told failed
+-- the test whose refusal is given failed
 fault-told : (place at : ℕ) (l : List Bool) → firstFault place l ≡ OutOfRange at → (i : ℕ) × ((place + i ≡ at) × (getD l i true ≡ false))
 fault-told place at [] e = absurd (found-none (sym e))
 fault-told place at (true ∷ l) e = let found = fault-told (place + 1) at l e in (suc (found .0), (omega (arith, found .1 .0), found .1 .1))
@@ -183,4 +183,4 @@ module _ (s : Sizes) (entries : ℕ) where
 
 -- .. and so of the last: there are few entries
 pub few-entries : (s : Sizes) (entries : ℕ) → checkRanges s entries ≡ Passed → entries ≤ 4096
-few-entries s entries in-range = leb-true entries 4096 (both-right (leb 0 entries) (leb entries 4096) (ranges-passed s entries in-range 6))
+few-entries s entries in-range = leb-true entries 4096 (and-right (leb 0 entries) (leb entries 4096) (ranges-passed s entries in-range 6))

@@ -10,8 +10,8 @@ use borrow.Author.Tests.{eqb-true, le-ltb, lt-ltb, ltb-false, ltb-true}
 use Rattle.terms.specs.declared.kinds.Meaning.the-variants.{Refused}
 use Rattle.terms.specs.Kinds.{allowedIf, entryOf, kindOf, operandOf}
 use Rattle.terms.proofs.Laws.Tests.{cond-map}
-use Rattle.machine.specs.Lists.{upTo}
-use Rattle.machine.proofs.Laws.Lists.{all-each}
+use Rattle.terms.specs.Lists.{range}
+use Rattle.terms.proofs.Laws.Lists.{all-each}
 use Rattle.schedule.specs.Types.{BeginPut, BeginSteal, BeginTake, ClientStore, Drain, Entry, ThiefStep, WorkerStep}
 use Rattle.schedule.specs.Types.{Allowed, Check, Failed, Kind, Meaning, Passed, Refusal, Short, Who}
 use Rattle.number.specs.Number.{wordAt}
@@ -20,7 +20,7 @@ use Rattle.schedule.specs.Check.{first}
 use Rattle.schedule.specs.Format.{allBelow, wordsIn}
 use Rattle.schedule.specs.Entries.{checkEntries, checkOf, entryAt}
 use Rattle.schedule.specs.Faults.{operandAllowed}
-use Rattle.schedule.proofs.Laws.Check.{first-more, first-stops, not-both, upTo-passed}
+use Rattle.schedule.proofs.Laws.Check.{first-more, first-stops, not-both, range-passed}
 use Rattle.schedule.proofs.Laws.Format.{getD-words, length-wordsIn}
 
 -- ── What the check of an entry says ─────────────────────────────────────────────────────────────────────────────────────────
@@ -116,7 +116,7 @@ module _ (thieves : ℕ) (kinds operands : List ℕ) where
 
   pub entries-passed : checkEntries thieves kinds operands ≡ Passed
       → (at : ℕ) → at < length kinds → checkOf (entryAt thieves kinds operands at) ≡ Passed
-  entries-passed e = upTo-passed (λ at. checkOf (entryAt thieves kinds operands at)) (length kinds) e
+  entries-passed e = range-passed (λ at. checkOf (entryAt thieves kinds operands at)) (length kinds) e
 
   pub entries-bytes : checkEntries thieves kinds operands ≡ Passed → allBelow 256 kinds ≡ true
   entries-bytes e = all-each (λ n. ltb n 256) kinds 0 (λ i. byte i (ltb i (length kinds)) refl)
@@ -153,7 +153,7 @@ module _ (thieves : ℕ) (kinds operands : List ℕ) where
 
   -- no entry before this one is faulty
   abbrev pub NoneBefore : ℕ → Type 0
-  NoneBefore at = (at ≤ length kinds) × (first (map check-at (upTo at)) ≡ Passed)
+  NoneBefore at = (at ≤ length kinds) × (first (map check-at (range at)) ≡ Passed)
 
   pub none-before-first : NoneBefore 0
   none-before-first = (zero-le, refl)
@@ -164,7 +164,7 @@ module _ (thieves : ℕ) (kinds operands : List ℕ) where
   pub none-at-all : (at : ℕ) → NoneBefore at → length kinds ≤ at → Passed ≡ checkEntries thieves kinds operands
   none-at-all at none past =
       let whole : at ≡ length kinds = omega (arith, none .0) in
-      sym (subst (λ n. first (map check-at (upTo n)) ≡ Passed) whole (none .1))
+      sym (subst (λ n. first (map check-at (range n)) ≡ Passed) whole (none .1))
 
   pub first-faulty : (at : ℕ) (r : Refusal) → NoneBefore at → at < length kinds → entryAt thieves kinds operands at ≡ Refused r
       → Failed r ≡ checkEntries thieves kinds operands

@@ -9,8 +9,8 @@ use lib.Dec.{ltb}
 use lib.ListN.{length, drop, getD, replicate, take, length-append, length-drop, length-replicate, take-append-drop}
 use lib.Seq.{drop-at, drop-drop, length-take-le, take-at}
 use borrow.Author.Tests.{lt-ltb, ltb-true}
-use Rattle.terms.proofs.Laws.Tests.{both-left, both-right}
-use Rattle.machine.proofs.Laws.Sums.{sumOf, sumOf-append}
+use Rattle.terms.proofs.Laws.Tests.{and-left, and-right}
+use Rattle.terms.proofs.Laws.Sums.{sumOf, sumOf-append}
 use Rattle.schedule.specs.Types.{Sizes}
 use Rattle.number.specs.Number.{littleEndian, ofBytes}
 use Rattle.schedule.specs.Format.{FileLength, allBelow, decode, encode, fileOf, kindsIn, layout, operandsIn, sizeBytes, sizeNumbers, wordBytes, wordsIn}
@@ -64,7 +64,7 @@ fitting-append [] vs [] ms p q = q
 fitting-append [] vs (n ∷ ns) ms p q = absurd (false≢true p)
 fitting-append (w ∷ ws) vs [] ms p q = absurd (false≢true p)
 fitting-append (w ∷ ws) vs (n ∷ ns) ms p q =
-    rw (both-left (ltb n (256 ^ w)) (fitting ws ns) p) (fitting-append ws vs ns ms (both-right (ltb n (256 ^ w)) (fitting ws ns) p) q)
+    rw (and-left (ltb n (256 ^ w)) (fitting ws ns) p) (fitting-append ws vs ns ms (and-right (ltb n (256 ^ w)) (fitting ws ns) p) q)
 
 -- numbers of one width fit where all are below its bound
 pub fitting-replicate : (w : ℕ) (l : List ℕ) → fitting (replicate (length l) w) l ≡ allBelow (256 ^ w) l
@@ -78,14 +78,14 @@ decode-encode [] (n ∷ ns) rest fits = absurd (false≢true fits)
 decode-encode (w ∷ ws) [] rest fits = absurd (false≢true fits)
 decode-encode (w ∷ ws) (n ∷ ns) rest fits =
     let long = length-littleEndian w n in
-    let first = ofBytes-littleEndian w n (ltb-true n (256 ^ w) (both-left (ltb n (256 ^ w)) (fitting ws ns) fits)) in
+    let first = ofBytes-littleEndian w n (ltb-true n (256 ^ w) (and-left (ltb n (256 ^ w)) (fitting ws ns) fits)) in
     rw (
       append-assoc (littleEndian w n) (encode ws ns) rest,
       take-at (littleEndian w n) (encode ws ns ++ rest) w long,
       drop-at (littleEndian w n) (encode ws ns ++ rest) w long,
       first,
     )
-    (ap (λ l. n ∷ l) (decode-encode ws ns rest (both-right (ltb n (256 ^ w)) (fitting ws ns) fits)))
+    (ap (λ l. n ∷ l) (decode-encode ws ns rest (and-right (ltb n (256 ^ w)) (fitting ws ns) fits)))
 
 -- Encoding what was decoded gives the bytes back.
 pub encode-decode : (ws bs : List ℕ) → allBelow 256 bs ≡ true → length bs ≡ total ws → encode ws (decode ws bs) ≡ bs
@@ -107,8 +107,8 @@ decode-bytes (suc n) (b ∷ bs) h = rw add-zero (ap (λ l. b ∷ l) (decode-byte
 pub encode-bytes : (l : List ℕ) → allBelow 256 l ≡ true → encode (replicate (length l) 1) l ≡ l
 encode-bytes [] below = refl
 encode-bytes (b ∷ l) below =
-    rw (mod-eq-of-lt (ltb-true b 256 (both-left (ltb b 256) (allBelow 256 l) below)))
-    (ap (λ r. b ∷ r) (encode-bytes l (both-right (ltb b 256) (allBelow 256 l) below)))
+    rw (mod-eq-of-lt (ltb-true b 256 (and-left (ltb b 256) (allBelow 256 l) below)))
+    (ap (λ r. b ∷ r) (encode-bytes l (and-right (ltb b 256) (allBelow 256 l) below)))
 
 -- a number of one byte, of several, is the byte
 pub getD-bytes : (n i : ℕ) (bs : List ℕ) → i < n → getD (decode (replicate n 1) bs) i 0 ≡ getD bs i 0

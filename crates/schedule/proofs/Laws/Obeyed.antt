@@ -1,4 +1,4 @@
--- Laws of a run that has come to a place: what machine, totals and trace buffer are there; that it is so at first, and with each entry more; and what it says at the end. They hold from any machine on.
+-- Laws of a run that has reached a place: what machine, totals and trace buffer are there; that it is so at first, and with each entry more; and what it says at the end. They hold from any machine on.
 use mathlib.Core.Path.{_≡_, ap, sym, _∙_}
 use mathlib.Core.List.{List, [], _∷_, _++_}
 use Prim.Native.Nat.{ℕ, _+_, _*_, _≤_, _<_}
@@ -35,7 +35,7 @@ module _ (m : Machine) (thieves : ℕ) (kinds operands l : List ℕ) where
     length-outcomesUpTo : (at : ℕ) → at ≤ length kinds → length (outcomesUpTo m thieves kinds operands at) ≡ at
     length-outcomesUpTo at inside = length-outcomesOf m (entriesUpTo thieves kinds operands at) ∙ length-entriesUpTo thieves kinds operands passed at inside
 
-    -- what the step and the two stores of an entry come to
+    -- what the step and the two stores of an entry leave
     pub obeyed-more : (trace : List ℕ) (machine : Machine) (tally : Tally) (at : ℕ) → at < length kinds
         → Obeyed m thieves kinds operands l trace machine tally at
         → (e : Entry) → entryAt thieves kinds operands at ≡ Allowed e

@@ -15,13 +15,13 @@ use Rattle.terms.specs.declared.outcome.Outcome.the-variants.{Moved, Place, Ear
 use Rattle.terms.specs.declared.kinds.Meaning.the-variants.{Refused}
 use Rattle.terms.specs.Kinds.{entryOf, operandOf}
 use Rattle.terms.specs.Tally.{counted, noneCounted}
-use Rattle.terms.proofs.Laws.Tests.{both-left, both-right, by-test, either}
-use Rattle.machine.specs.Lists.{all, gather, upTo}
+use Rattle.terms.proofs.Laws.Tests.{and-left, and-right, by-test, either}
+use Rattle.terms.specs.Lists.{all, concatMap, range}
 use Rattle.machine.specs.Machine.{fresh}
 use Rattle.machine.specs.Obey.{machineAfter, obey, outcomesOf}
 use Rattle.renumbering.specs.Renumbering.{renumberEntry, renumberOutcome}
-use Rattle.machine.proofs.Laws.Lists.{all-behind, all-getD}
-use Rattle.machine.proofs.Laws.Sums.{gather-append, upTo-suc}
+use Rattle.terms.proofs.Laws.Lists.{all-behind, all-getD}
+use Rattle.terms.proofs.Laws.Sums.{concatMap-append, range-suc}
 use Rattle.renumbering.proofs.Renumbering.{blind-to-numbers}
 use Rattle.schedule.specs.Types.{BeginPut, BeginSteal, BeginTake, ClientStore, Drain, Entry, Refusal, ThiefStep, WorkerStep}
 use Rattle.schedule.specs.Types.{Accepted, Allowed, Machine, Meaning, Outcome, Passed, Ran, Room, Sizes, Tally}
@@ -67,16 +67,16 @@ tallyOf-more os o = from noneCounted os
 
 -- the entries at the first n places
 abbrev pub entriesUpTo : ℕ → List ℕ → List ℕ → ℕ → List Entry
-entriesUpTo thieves kinds operands n = gather (λ at. entryMeant (entryAt thieves kinds operands at)) (upTo n)
+entriesUpTo thieves kinds operands n = concatMap (λ at. entryMeant (entryAt thieves kinds operands at)) (range n)
 
 module _ (thieves : ℕ) (kinds operands : List ℕ) where
   pub entriesUpTo-more : (n : ℕ) (e : Entry) → entryAt thieves kinds operands n ≡ Allowed e
       → entriesUpTo thieves kinds operands (n + 1) ≡ entriesUpTo thieves kinds operands n ++ (e ∷ [])
   entriesUpTo-more n e allowed =
       let meant : ℕ → List Entry = λ at. entryMeant (entryAt thieves kinds operands at) in
-      ap (gather meant) (upTo-suc n)
-      ∙ gather-append meant (upTo n) (n ∷ [])
-      ∙ (λ i. gather meant (upTo n) ++ (entryMeant (allowed i) ++ []))
+      ap (concatMap meant) (range-suc n)
+      ∙ concatMap-append meant (range n) (n ∷ [])
+      ∙ (λ i. concatMap meant (range n) ++ (entryMeant (allowed i) ++ []))
 
   module _ (passed : checkEntries thieves kinds operands ≡ Passed) where
     -- where all entries passed, each is allowed
@@ -194,12 +194,12 @@ module _ (thieves : ℕ) (kinds operands : List ℕ) (below : allBelow 429496729
       go (Refused r) p = refl
 
   operands-fit : (n : ℕ) → all fitting-operand (entriesUpTo thieves kinds operands n) ≡ true
-  operands-fit n = each (upTo n)
+  operands-fit n = each (range n)
     where
-      each : (l : List ℕ) → all fitting-operand (gather (λ at. entryMeant (entryAt thieves kinds operands at)) l) ≡ true
+      each : (l : List ℕ) → all fitting-operand (concatMap (λ at. entryMeant (entryAt thieves kinds operands at)) l) ≡ true
       each [] = refl
       each (at ∷ l) =
-          all-behind fitting-operand (entryMeant (entryAt thieves kinds operands at)) (gather (λ at. entryMeant (entryAt thieves kinds operands at)) l)
+          all-behind fitting-operand (entryMeant (entryAt thieves kinds operands at)) (concatMap (λ at. entryMeant (entryAt thieves kinds operands at)) l)
           (operand-fits at) (each l)
 
 -- Every value of a file's run fits, since its operands have four bytes.

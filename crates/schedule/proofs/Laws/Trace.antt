@@ -1,4 +1,4 @@
--- Laws of the trace: how it comes to stand in a buffer, outcome by outcome, and what stands in its bytes.
+-- Laws of the trace: how it is put into a buffer, outcome by outcome, and what stands in its bytes.
 use mathlib.Core.Path.{_≡_, refl, ap, sym, _∙_}
 use mathlib.Core.Bool.{true}
 use mathlib.Core.List.{List, [], _∷_, _++_, append-assoc, map, map-append}
@@ -9,8 +9,8 @@ use lib.ListN.{length, drop, getD, length-append, length-map, length-replicate, 
 use lib.Seq.{drop-drop, getD-append-add, getD-drop}
 use Rattle.terms.specs.Outcome.{numberOf, valueOf}
 use Rattle.terms.specs.declared.outcome.Outcome.the-variants.{Moved, Place, Early, Wait, Stored, Task, Empty, Abort, Full, End}
-use Rattle.machine.specs.Lists.{gather}
-use Rattle.machine.proofs.Laws.Lists.{gather-places}
+use Rattle.terms.specs.Lists.{concatMap}
+use Rattle.terms.proofs.Laws.Lists.{concatMap-places}
 use Rattle.schedule.specs.Types.{Outcome}
 use Rattle.number.specs.Number.{littleEndian, ofBytes, overwritten, wordAt}
 use Rattle.schedule.specs.Format.{allBelow, decode, encode, wordBytes}
@@ -207,8 +207,8 @@ lineIn-written os l at words there =
 
 -- .. and the answers are those among the outcomes
 pub answersIn-written : (os : List Outcome) (l : List ℕ) → allBelow 4294967296 (map valueOf os) ≡ true
-    → answersIn (length os) (overwritten 0 (traceOf os) l) ≡ gather (λ o. answerIn (lineOf o)) os
+    → answersIn (length os) (overwritten 0 (traceOf os) l) ≡ concatMap (λ o. answerIn (lineOf o)) os
 answersIn-written os l words =
     let line = lineIn (length os) (overwritten 0 (traceOf os) l) in
-    gather-places (λ at. answerIn (line at)) (λ o. answerIn (lineOf o)) Moved os 0
+    concatMap-places (λ at. answerIn (line at)) (λ o. answerIn (lineOf o)) Moved os 0
     (λ at there. ap (λ k. answerIn (line k)) (zero-add at) ∙ ap answerIn (lineIn-written os l at words there))

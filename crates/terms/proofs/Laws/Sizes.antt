@@ -10,7 +10,7 @@ use lib.ListN.{getD}
 use borrow.Author.Tests.{eqb-false, leb-true}
 use Rattle.terms.specs.Types.{Sizes}
 use Rattle.terms.specs.Sizes.{divideUp, firstFault, marginInUse, noFault, rangesKept, sizesInRange, within}
-use Rattle.terms.proofs.Laws.Tests.{both-left, both-right}
+use Rattle.terms.proofs.Laws.Tests.{and-left, and-right}
 
 -- a quotient that is rounded up, by less than a whole, is at most the number itself
 pub add-div-le : (n x d : ℕ) → x < d → (n + x) / d ≤ n
@@ -49,7 +49,7 @@ kept-at place (true ∷ l) (suc i) h = kept-at (place + 1) l i h
 kept-at place (false ∷ l) i h = absurd (false≢true h)
 
 within-bounds : (least greatest n : ℕ) → within least greatest n ≡ true → (least ≤ n) × (n ≤ greatest)
-within-bounds least greatest n h = (leb-true least n (both-left (leb least n) (leb n greatest) h), leb-true n greatest (both-right (leb least n) (leb n greatest) h))
+within-bounds least greatest n h = (leb-true least n (and-left (leb least n) (leb n greatest) h), leb-true n greatest (and-right (leb least n) (leb n greatest) h))
 
 pub sizes-bounds : (s : Sizes) → sizesInRange s ≡ true → SizeBounds s
 sizes-bounds s h =

@@ -44,13 +44,13 @@ decide P true p q = p refl
 decide P false p q = q refl
 
 -- of two tests that both passed, each did
-pub both-left : (a b : Bool) → (a && b) ≡ true → a ≡ true
-both-left true b p = refl
-both-left false b p = p
+pub and-left : (a b : Bool) → (a && b) ≡ true → a ≡ true
+and-left true b p = refl
+and-left false b p = p
 
-pub both-right : (a b : Bool) → (a && b) ≡ true → b ≡ true
-both-right true b p = p
-both-right false b p = absurd (false≢true p)
+pub and-right : (a b : Bool) → (a && b) ≡ true → b ≡ true
+and-right true b p = p
+and-right false b p = absurd (false≢true p)
 
 pub eqb-comm : (j k : ℕ) → eqb j k ≡ eqb k j
 eqb-comm j k = go (eqb k j) refl

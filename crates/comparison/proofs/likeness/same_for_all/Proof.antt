@@ -4,15 +4,15 @@ use mathlib.Core.Bool.{true}
 use Prim.Native.Nat.{_+_, _-_, _≤_, _<_, zero-le}
 use native.Mathlib.Omega.{arith}
 use Rattle.terms.proofs.Laws.Tests.{denied, granted}
-use Rattle.machine.specs.Lists.{all, upTo}
+use Rattle.terms.specs.Lists.{all, range}
 use Rattle.comparison.specs.Comparison.{sameFor}
-use Rattle.machine.proofs.Laws.Lists.{all-next, all-stops}
+use Rattle.terms.proofs.Laws.Lists.{all-next, all-stops}
 use Rattle.comparison.proofs.likeness.same_for_all.Statement.{statement}
 use Rattle.comparison.proofs.likeness.same_for_all.Tie as tie
 
 abbrev Inv-loop : tie.InvT-loop
 Inv-loop thieves entries file trace others other other-trace party₀ party =
-    (all (sameFor entries file trace others other other-trace) (upTo party) ≡ true) × (party ≤ thieves + 1)
+    (all (sameFor entries file trace others other other-trace) (range party) ≡ true) × (party ≤ thieves + 1)
 
 abbrev μ-loop : tie.MeasureT-loop
 μ-loop thieves entries file trace others other other-trace party₀ party = thieves + 1 - party
@@ -41,7 +41,7 @@ returns-2 : tie.Need-returns-2 Inv-loop μ-loop
 returns-2 c =
     let a = c .before .before .before .before .before .before .args in
     let last : c .before .loop .party ≡ a .thieves + 1 = omega (arith, c .loop-test .left, c .before .loop .inv .1) in
-    sym (subst (λ n. all (sameFor (a .entries) (a .file .now) (a .trace .now) (a .others) (a .other .now) (a .other-trace .now)) (upTo n) ≡ true) last (c .before .loop .inv .0))
+    sym (subst (λ n. all (sameFor (a .entries) (a .file .now) (a .trace .now) (a .others) (a .other .now) (a .other-trace .now)) (range n) ≡ true) last (c .before .loop .inv .0))
 
 pub same-for-all-spec : {M : Type 1} → statement M
 same-for-all-spec =

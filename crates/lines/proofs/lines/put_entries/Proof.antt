@@ -4,17 +4,17 @@ use Prim.Native.Nat.{_+_, _*_, _-_, _≤_}
 use native.Mathlib.Omega.{arith}
 use borrow.Author.Needs.{needs}
 use lib.ListN.{length, getD}
-use Rattle.machine.specs.Lists.{gather, upTo}
+use Rattle.terms.specs.Lists.{concatMap, range}
 use Rattle.number.specs.Number.{overwritten}
 use Rattle.schedule.proofs.Laws.Trace.{lineIn-number, lineIn-value}
 use Rattle.lines.specs.FromTrace.{lineFromTrace, threeNumbers}
-use Rattle.lines.proofs.Laws.Text.{Put, gather-next, put-as, put-more, put-nothing}
+use Rattle.lines.proofs.Laws.Text.{Put, concatMap-next, put-as, put-more, put-nothing}
 use Rattle.lines.proofs.lines.put_entries.Statement.{statement}
 use Rattle.lines.proofs.lines.put_entries.Tie as tie
 
 abbrev Inv-loop : tie.InvT-loop
 Inv-loop text₀ from entries trace end₀ at₀ text end at =
-    Put from (gather (lineFromTrace entries trace) (upTo at)) text₀ text end × (end ≤ from + 33 * at) × (at ≤ entries) × (length text ≡ length text₀)
+    Put from (concatMap (lineFromTrace entries trace) (range at)) text₀ text end × (end ≤ from + 33 * at) × (at ≤ entries) × (length text ≡ length text₀)
 
 abbrev μ-loop : tie.MeasureT-loop
 μ-loop text₀ from entries trace end₀ at₀ text end at = entries - at
@@ -36,10 +36,10 @@ loop-again c =
     let number = lineIn-number n trace at there in
     let value = told .word-at .ensures ∙ sym (lineIn-value n trace at there (omega arith)) in
     let line : threeNumbers at (getD trace (4 + at) 0) (told .word-at .result) ≡ lineFromTrace n trace at = λ i. threeNumbers at (sym number i) (value i) in
-    let more = put-more (a .from) (gather (lineFromTrace n trace) (upTo at)) (lineFromTrace n trace at) (a .text .now) (omega arith) (turn .loop .inv .0)
+    let more = put-more (a .from) (concatMap (lineFromTrace n trace) (range at)) (lineFromTrace n trace at) (a .text .now) (omega arith) (turn .loop .inv .0)
     (put .put-entry .ensures .0 .0 ∙ ap (λ l. turn .loop .end + length l) line)
     (put .put-entry .ensures .1 ∙ ap (λ l. overwritten (turn .loop .end) l (turn .loop .text)) line) in (
-      put-as (a .from) (a .text .now) (sym (gather-next (lineFromTrace n trace) at)) more,
+      put-as (a .from) (a .text .now) (sym (concatMap-next (lineFromTrace n trace) at)) more,
       omega arith,
       omega arith,
       omega arith,
@@ -50,7 +50,7 @@ returns c =
     let turn = c .before in
     let a = turn .before .before .before .args in
     let all : turn .loop .at ≡ a .entries = omega arith in
-    let whole = put-as (a .from) (a .text .now) (ap (λ k. gather (lineFromTrace (a .entries) (a .trace .now)) (upTo k)) all) (turn .loop .inv .0) in
+    let whole = put-as (a .from) (a .text .now) (ap (λ k. concatMap (lineFromTrace (a .entries) (a .trace .now)) (range k)) all) (turn .loop .inv .0) in
     ((whole .ends, omega arith), whole .there)
 
 pub put-entries-spec : {M : Type 1} → statement M

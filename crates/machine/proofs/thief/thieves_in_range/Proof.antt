@@ -6,10 +6,9 @@ use native.Mathlib.Omega.{arith}
 use lib.ListN.{length, take}
 use lib.Seq.{take-all}
 use borrow.Author.Needs.{needs}
-use Rattle.machine.specs.InRange.{thiefInRange}
-use Rattle.machine.specs.Lists.{all}
-use Rattle.machine.specs.Machine.{idleThief}
-use Rattle.machine.proofs.Laws.Lists.{all-more}
+use Rattle.machine.specs.Thief.{thiefInRange, idleThief}
+use Rattle.terms.specs.Lists.{all}
+use Rattle.terms.proofs.Laws.Lists.{all-more}
 use Rattle.machine.proofs.thief.thieves_in_range.Statement.{statement}
 use Rattle.machine.proofs.thief.thieves_in_range.Tie as tie
 
@@ -31,9 +30,6 @@ array-copy-out-thief c = omega arith
 in-range-requires : tie.Need-in-range-requires Inv-loop μ-loop
 in-range-requires c κs = search needs
 
-both-requires : tie.Need-both-requires Inv-loop μ-loop
-both-requires c κs = search needs
-
 add-i : tie.Need-add-i Inv-loop μ-loop
 add-i c = omega arith
 
@@ -42,11 +38,11 @@ loop-less c = omega arith
 
 loop-again : tie.Need-loop-again Inv-loop μ-loop
 loop-again c =
-    let start = c .before .before .before .before .before in
-    let turn = c .before .before .before .before .loop in
+    let start = c .before .before .before .before in
+    let turn = c .before .before .before .loop in
     let long : length (start .args .t1) ≡ 8 = search needs in
     let more = all-more (λ t. thiefInRange (t .call)) (start .args .t1) (turn .i) idleThief (omega arith) in
-    (simp (c .both .ensures, c .before .in-range .ensures, turn .inv .0) (sym more), omega arith)
+    (simp (c .in-range .ensures, turn .inv .0) (sym more), omega arith)
 
 returns : tie.Need-returns Inv-loop μ-loop
 returns c =
@@ -64,7 +60,6 @@ thieves-in-range-spec =
     mul-thief
     array-copy-out-thief
     in-range-requires
-    both-requires
     add-i
     loop-less
     loop-again

@@ -1,4 +1,4 @@
--- `obey_all` meets its contract. Its loop keeps that machine, totals and trace buffer are what the entries before `at` have come to.
+-- `obey_all` meets its contract. Its loop keeps that machine, totals and trace buffer are those after the entries before `at`.
 use mathlib.Core.Path.{_≡_, refl, _∙_, sym}
 use Prim.Native.Nat.{_+_, _*_, _-_, _≤_}
 use native.Mathlib.Omega.{arith}

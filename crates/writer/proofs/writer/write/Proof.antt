@@ -1,4 +1,4 @@
--- `write` meets its contract: what the checks found decides what is told, and whether a byte is written.
+-- `write` meets its contract: what the checks found decides what is answered, and whether a byte is written.
 use mathlib.Core.Path.{_∙_, ap, sym}
 use Prim.Native.Nat.{_+_, _*_, _≤_}
 use native.Mathlib.Omega.{arith}

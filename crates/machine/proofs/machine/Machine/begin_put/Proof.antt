@@ -25,7 +25,7 @@ returns-2 : tie.Need-returns-2
 returns-2 c = c .out-of-place .ensures ∙ sym (obeyed (c .before .before .before) ∙ by-test _ _ (known (c .before .before .worker-runs .ensures) (c .before .if2 .taken)))
 
 returns-3 : tie.Need-returns-3
-returns-3 c = c .worker-comes-to .ensures ∙ sym (obeyed (c .before .before .before) ∙ by-test _ _ (known (c .before .before .worker-runs .ensures) (c .before .if2 .left)))
+returns-3 c = c .worker-done .ensures ∙ sym (obeyed (c .before .before .before) ∙ by-test _ _ (known (c .before .before .worker-runs .ensures) (c .before .if2 .left)))
 
 pub begin-put-spec : {M : Type 1} → statement M
 begin-put-spec = tie.close (tie.spec (λ c κs. search needs) (λ c κs. search needs) returns (λ c κs. search needs) (λ c κs. search needs) returns-2 (λ c κs. search needs) returns-3)

@@ -25,10 +25,13 @@ returns-2 : tie.Need-returns-2
 returns-2 c = c .out-of-place .ensures ∙ sym (obeyed (c .before .before .before) ∙ by-test _ _ (known (c .before .before .worker-runs .ensures) (c .before .if2 .taken)))
 
 returns-3 : tie.Need-returns-3
-returns-3 c = sym (obeyed (c .before .before .before .before .before) ∙ by-test _ _ (known (c .before .before .before .before .worker-runs .ensures) (c .before .before .before .if2 .left)) ∙ by-test _ _ (known (c .before .both .ensures) (c .if3 .taken)))
+returns-3 c =
+    sym (obeyed (c .before .before .before .before .before) ∙ by-test _ _ (known (c .before .before .before .before .worker-runs .ensures) (c .before .before .before .if2 .left)) ∙ by-test _ _ (known (c .before .too-early .ensures) (c .if3 .taken)))
 
 returns-4 : tie.Need-returns-4
-returns-4 c = c .worker-comes-to .ensures ∙ sym (obeyed (c .before .before .before .before .before .before) ∙ by-test _ _ (known (c .before .before .before .before .before .worker-runs .ensures) (c .before .before .before .before .if2 .left)) ∙ by-test _ _ (known (c .before .before .both .ensures) (c .before .if3 .left)))
+returns-4 c =
+    simp (c .worker-done .ensures, c .before .take-begins .ensures)
+    (sym (obeyed (c .before .before .before .before .before .before .before) ∙ by-test _ _ (known (c .before .before .before .before .before .before .worker-runs .ensures) (c .before .before .before .before .before .if2 .left)) ∙ by-test _ _ (known (c .before .before .before .too-early .ensures) (c .before .before .if3 .left))))
 
 pub begin-take-spec : {M : Type 1} → statement M
-begin-take-spec = tie.close (tie.spec (λ c κs. search needs) (λ c κs. search needs) returns (λ c κs. search needs) (λ c κs. search needs) returns-2 (λ c κs. search needs) returns-3 (λ c κs. search needs) returns-4)
+begin-take-spec = tie.close (tie.spec (λ c κs. search needs) (λ c κs. search needs) returns (λ c κs. search needs) (λ c κs. search needs) returns-2 (λ c κs. search needs) returns-3 (λ c κs. search needs) (λ c κs. search needs) returns-4)

@@ -1,13 +1,13 @@
 -- `Machine::client_store` meets its contract, by its tests.
 use mathlib.Core.Path.{ap, sym, _∙_, _≡_}
 use mathlib.Core.Bool.{true, _&&_}
-use native.Mathlib.Omega.{arith}
 use borrow.Author.Needs.{needs}
 use borrow.Author.Tests.{le-ltb, lt-ltb}
 use Rattle.terms.proofs.Laws.Tests.{by-test, denied, granted, known}
-use Rattle.machine.specs.Types.{ClientStore, Moved}
-use Rattle.machine.specs.Update.{withBuffer, withSpacing}
-use Rattle.machine.specs.Machine.{done}
+use Rattle.stores.specs.StoreBuffer.{clientStore}
+use Rattle.stores.proofs.Laws.Spacing.{counted-in-range}
+use Rattle.stores.proofs.Laws.StoreBuffer.{push-free}
+use Rattle.machine.specs.Types.{ClientStore}
 use Rattle.machine.specs.InRange.{inRange}
 use Rattle.machine.specs.Obey.{obey, obeyInRange}
 use Rattle.machine.proofs.Laws.InRange.{bounds, room-below}
@@ -32,16 +32,18 @@ returns-2 c = c .out-of-place .ensures ∙ sym (obeyed (c .before .before .befor
 returns-3 : tie.Need-returns-3
 returns-3 c = c .waits2 .ensures ∙ sym (obeyed (c .before .before .before .before .before .before) ∙ by-test _ _ (known (c .before .before .before .before .before .worker-runs .ensures) (c .before .before .before .before .if2 .left)) ∙ by-test _ _ (le-ltb _ _ (c .before .if3 .taken)))
 
-push-requires : tie.Need-push-requires
-push-requires c κs = room-below (c .before .before .before .before .before .before .before .before .args .self) (ready (c .before .before .before .before .before .before)) (c .before .if3 .left)
-
-add-chosen : tie.Need-add-chosen
-add-chosen c = let since = bounds (c .before .before .before .before .before .before .before .before .before .before .args .self) (ready (c .before .before .before .before .before .before .before .before)) .since in omega arith
-
 returns-4 : tie.Need-returns-4
 returns-4 c =
-    (λ i. done Moved (withSpacing (c .chosen .ensures i) (c .before .before .before .before .before .before .before .before .before .before .before .args .self .taken) (withBuffer (c .before .before .push .ensures i) (c .before .before .before .before .before .before .before .before .before .before .before .args .self))))
-    ∙ sym (obeyed (c .before .before .before .before .before .before .before .before .before) ∙ by-test _ _ (known (c .before .before .before .before .before .before .before .before .worker-runs .ensures) (c .before .before .before .before .before .before .before .if2 .left)) ∙ by-test _ _ (lt-ltb _ _ (c .before .before .before .before .if3 .left)))
+    let start = c .before .before .before .before .before .before .before .before .before .before .before in
+    let m = start .args .self in
+    let ready = ready (c .before .before .before .before .before .before .before .before .before) in
+    simp (
+      c .counted .ensures,
+      counted-in-range (m .spacing) (bounds m ready .spacing),
+      c .before .before .push .ensures,
+      push-free clientStore (m .buffer) (room-below m ready (c .before .before .before .before .if3 .left)),
+    )
+    (sym (obeyed (c .before .before .before .before .before .before .before .before .before) ∙ by-test _ _ (known (c .before .before .before .before .before .before .before .before .worker-runs .ensures) (c .before .before .before .before .before .before .before .if2 .left)) ∙ by-test _ _ (lt-ltb _ _ (c .before .before .before .before .if3 .left))))
 
 pub client-store-spec : {M : Type 1} → statement M
-client-store-spec = tie.close (tie.spec (λ c κs. search needs) (λ c κs. search needs) returns (λ c κs. search needs) (λ c κs. search needs) returns-2 (λ c. search needs) (λ c κs. search needs) returns-3 push-requires add-chosen (λ c κs. search needs) returns-4)
+client-store-spec = tie.close (tie.spec (λ c κs. search needs) (λ c κs. search needs) returns (λ c κs. search needs) (λ c κs. search needs) returns-2 (λ c. search needs) (λ c κs. search needs) returns-3 (λ c κs. search needs) (λ c κs. search needs) returns-4)

@@ -1,7 +1,7 @@
 -- `Machine::fresh` meets its contract: the start is an index as it is.
 use native.Mathlib.Omega.{arith}
 use borrow.Author.Needs.{needs}
-use Rattle.machine.proofs.Laws.Words.{number-small, small-read}
+use Rattle.stores.proofs.Laws.Words.{number-small, small-read}
 use Rattle.machine.proofs.machine.Machine.fresh.Statement.{statement}
 use Rattle.machine.proofs.machine.Machine.fresh.Tie as tie
 

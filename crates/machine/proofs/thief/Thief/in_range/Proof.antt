@@ -7,7 +7,7 @@ use types.Run.{OneOf, miss}
 use denote.Enum.Declared.{tagOf}
 use borrow.Author.Needs.{needs}
 use Rattle.machine.specs.Types.{ThiefCall, StealLock, StealLoadHead, StealRaiseHead, StealLoadTail, StealLoadSlot, StealUnlockTask, StealRestoreHead, StealUnlockAbort}
-use Rattle.machine.specs.InRange.{thiefInRange}
+use Rattle.machine.specs.Thief.{thiefInRange}
 use Rattle.machine.proofs.thief.ThiefCall.{the-type}
 use Rattle.machine.proofs.thief.Thief.in_range.Statement.{statement}
 use Rattle.machine.proofs.thief.Thief.in_range.Tie as tie

@@ -1,0 +1,13 @@
+-- What is claimed of a queue. Names in quotation marks are places of the scope paper, 01.
+--
+-- the plain queue, its limits           PlainQueue
+-- parties, calls, effects               Calls
+-- what the claim has to know of a queue Implementation
+-- a run watched                         Watch
+-- the claim                             Linearizable
+pub mod Types
+pub mod PlainQueue
+pub mod Calls
+pub mod Implementation
+pub mod Watch
+pub mod Linearizable

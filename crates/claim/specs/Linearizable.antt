@@ -1,0 +1,55 @@
+-- The claim that a queue answers as the plain queue does, and that no task is lost or given twice. Renders the two last paragraphs of
+-- "Demand 3's plain queue".
+use mathlib.Core.Path.{_≡_}
+use mathlib.Core.Bool.{Bool, true, cond}
+use mathlib.Core.List.{List, [], _∷_, _++_, map}
+use Prim.Native.Nat.{ℕ, _+_}
+use lib.ListN.{length, replicate}
+use Rattle.terms.specs.Lists.{all, concatMap, occurrences, range}
+use Rattle.terms.specs.Outcome.{isAnswer}
+use Rattle.claim.specs.Types.{Outcome, Sizes}
+use Rattle.claim.specs.PlainQueue.{StoredTask, withinLimits}
+use Rattle.claim.specs.Calls.{Begun, answersTo, givenTo, isNothing, parties, taskIn}
+use Rattle.claim.specs.Implementation.{Implementation}
+use Rattle.claim.specs.Watch.{Event, Watch, events, watchFresh, watched}
+
+-- the events that answer a call
+abbrev pub answering : List Event → List Event
+answering h = concatMap (λ v. cond (isAnswer (v .outcome)) (v ∷ []) []) h
+
+-- the plain queue's account: the tasks given to calls that have answered, those given to running calls, and those that stand
+abbrev pub tasksOf : {M : Type 0} → Sizes → List Event → Watch M → List StoredTask
+tasksOf s h w = concatMap (λ v. givenTo (v .call)) (answering h) ++ concatMap (λ p. givenTo (w .calls p)) (parties s) ++ w .queue .tasks
+
+abbrev pub noCallRuns : {M : Type 0} → Sizes → Watch M → Bool
+noCallRuns s w = all (λ p. isNothing (w .calls p .begun)) (parties s)
+
+module _ {M E : Type 0} (b : Implementation M E) where
+  -- the plain queue's answers to a call that answers o: that one, unless it is not told of such calls
+  abbrev pub expected : Begun → Outcome → List Outcome
+  expected c o = cond (b .isTold c o) (o ∷ []) []
+
+  -- the machine's account: the numbers that calls have answered, and those that running calls owe
+  abbrev pub numbersAnsweredOrOwed : Sizes → List Event → Watch M → List ℕ
+  numbersAnsweredOrOwed s h w = concatMap (λ v. taskIn (v .outcome)) h ++ concatMap taskIn (concatMap (b .owes (w .machine)) (parties s))
+
+  -- Each part of the claim, of the events h of a run and of the watch w at its end. Each prefix of a list is a list, so what is claimed at the
+  -- end of every list is claimed at every moment.
+  pub record Linearizes (s : Sizes) (h : List Event) (w : Watch M) : Type 0 where
+    -- Calls answer as the plain queue does: of each call that has answered, the plain queue's answers to it since it began are that one
+    -- answer, with its value; or none, where the plain queue is not told of such a call.
+    pub answers : map (λ v. answersTo (v .call)) (answering h) ≡ map (λ v. expected (v .call .begun) (v .outcome)) (answering h)
+    -- Between its effect and its answer a call has its task: what each running call owes, which for a task is the number that it would load
+    -- from its slot now or has loaded, is what the plain queue has answered to it, if anything.
+    pub held : map (λ p. answersTo (w .calls p)) (parties s) ≡ map (b .owes (w .machine)) (parties s)
+    -- Whatever the plain queue was told, it was told within its limits, by the tasks that stood just before.
+    pub limits : all (λ v. all (withinLimits (s .slots) (v .queue)) (v .told)) h ≡ true
+    -- Each STORED put's task was given to one call, or stands, and not both: it is known by its put, and stands once in the account.
+    pub once : map (λ k. occurrences k (map (λ t. t .put) (tasksOf s h w))) (range (w .queue .stored)) ≡ replicate (w .queue .stored) 1
+    -- The machine's account has no other: as many numbers were answered or are owed as tasks were STORED and do not stand.
+    pub noOther : length (numbersAnsweredOrOwed s h w) + length (w .queue .tasks) ≡ w .queue .stored
+    -- While no call runs, the slots from head to below the worker's tail show it the numbers of the standing tasks, oldest first.
+    pub standing : noCallRuns s w ≡ true → map (λ t. t .number) (w .queue .tasks) ≡ b .standing (w .machine)
+
+  abbrev pub Linearizable : Sizes → List E → Type 0
+  Linearizable s es = Linearizes s (events b (watchFresh b s) es) (watched b (watchFresh b s) es)

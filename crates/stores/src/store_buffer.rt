@@ -1,0 +1,215 @@
+use crate::index::Index;
+use crate::index::slot_of;
+ghost use mathlib.Core.Path.{_≡_};
+ghost use Rattle.terms.specs.Lists.{all};
+ghost use Rattle.stores.specs.StoreBuffer.{
+  dropOldestOrSame,
+  newestInSlot,
+  newestTail,
+  oldest,
+  pending,
+  pushOrSame,
+  pushedOrSame,
+  slotAfter,
+  slotsAfter,
+  storeInRange,
+  tailAfter,
+};
+
+// What a store writes to, with its value.
+pub enum StoreKind {
+    // The client's own memory, which the machine does not have: the value is 0 and goes nowhere.
+    Client,
+    // The tail becomes this index.
+    Tail(Index),
+    // The task of this number, in the slot in which this index lies. With the number first a store has 16 bytes, not 24.
+    Slot(u32, Index),
+}
+
+// A store that the worker has made.
+pub struct Store {
+    pub kind: StoreKind,
+}
+
+// The store that a step makes, if it makes one.
+pub enum Push {
+    Nothing,
+    One(StoreKind),
+}
+
+// The stores that the worker has made and that have not reached memory, oldest first.
+pub struct StoreBuffer {
+    // The pending stores stand in the first `count` cells. A machine's own operations keep the client store in the
+    // others, so that equal buffers have equal cells.
+    pub stores: [Store; 64],
+    // How many are pending.
+    pub count: usize,
+}
+
+impl Store {
+    // Whether a machine may have it pending.
+    pub fn in_range(self) -> bool
+        ensures { λ r. ⌜ r ≡ storeInRange (self .kind) ⌝ }
+    {
+        let kind = self.kind;
+        match kind {
+            StoreKind::Client => true,
+            StoreKind::Tail(tail) => tail.in_range(),
+            StoreKind::Slot(_, index) => index.slot_in_range(),
+        }
+    }
+}
+
+impl StoreKind {
+    // What the store leaves at the tail, from what was there.
+    pub fn tail_after(self, tail: Index) -> Index
+        ensures { λ r. ⌜ r ≡ tailAfter tail self ⌝ }
+    {
+        match self {
+            StoreKind::Client | StoreKind::Slot(_, _) => tail,
+            StoreKind::Tail(index) => index,
+        }
+    }
+
+    // What the store leaves in so many slots, from what was there. A slot beyond the array is not there.
+    pub fn slots_after(self, count: u32, mut slots: [u32; 256]) -> [u32; 256]
+        ensures { λ r. ⌜ r ≡ slotsAfter count slots self ⌝ }
+    {
+        match self {
+            StoreKind::Client | StoreKind::Tail(_) => return slots,
+            StoreKind::Slot(task, index) => {
+                let slot = slot_of(index, count);
+                if slot < 256 {
+                    slots[slot] = task;
+                    return slots;
+                }
+                return slots;
+            }
+        }
+    }
+
+    // What the store leaves in this slot, from what was there.
+    pub fn slot_after(self, slots: u32, slot: usize, value: u32) -> u32
+        ensures { λ r. ⌜ r ≡ slotAfter slots slot value self ⌝ }
+    {
+        match self {
+            StoreKind::Client | StoreKind::Tail(_) => return value,
+            StoreKind::Slot(task, index) => {
+                let reached = slot_of(index, slots);
+                if reached == slot {
+                    return task;
+                }
+                return value;
+            }
+        }
+    }
+}
+
+impl StoreBuffer {
+    // The tail as the worker loads it, from memory's.
+    pub fn newest_tail(self, tail: Index) -> Index
+        ensures { λ r. ⌜ r ≡ newestTail tail self ⌝ }
+    {
+        let stores = self.stores;
+        let count = self.count;
+        let mut newest = tail;
+        let mut i: usize = 0;
+        while (i < count) & (i < 64) {
+            let store = stores[i];
+            let kind = store.kind;
+            newest = kind.tail_after(newest);
+            i += 1;
+        }
+        newest
+    }
+
+    // What the worker loads from this slot, from what memory has there.
+    pub fn newest_in_slot(self, slots: u32, slot: usize, value: u32) -> u32
+        ensures { λ r. ⌜ r ≡ newestInSlot slots slot value self ⌝ }
+    {
+        let stores = self.stores;
+        let count = self.count;
+        let mut newest = value;
+        let mut i: usize = 0;
+        while (i < count) & (i < 64) {
+            let store = stores[i];
+            let kind = store.kind;
+            newest = kind.slot_after(slots, slot, newest);
+            i += 1;
+        }
+        newest
+    }
+
+    // Whether every pending store is in range.
+    pub fn in_range(self) -> bool
+        ensures { λ r. ⌜ r ≡ all (λ s. storeInRange (s .kind)) (pending self) ⌝ }
+    {
+        let stores = self.stores;
+        let count = self.count;
+        let mut ok = true;
+        let mut i: usize = 0;
+        while (i < count) & (i < 64) {
+            let store = stores[i];
+            ok = ok & store.in_range();
+            i += 1;
+        }
+        ok
+    }
+
+    // The store that has been pending longest.
+    pub fn oldest(self) -> Store
+        ensures { λ r. ⌜ r ≡ oldest self ⌝ }
+    {
+        let stores = self.stores;
+        stores[0]
+    }
+
+    // Without the oldest, if there is one: the others move a cell to the front, and the cell that becomes free holds the client store.
+    pub fn drop_oldest(mut self) -> StoreBuffer
+        ensures { λ r. ⌜ r ≡ dropOldestOrSame self ⌝ }
+    {
+        let count = self.count;
+        if (count < 1) | (64 < count) {
+            return self;
+        }
+        let mut stores = self.stores;
+        let mut i: usize = 1;
+        while i < count {
+            let store = stores[i];
+            stores[i - 1] = store;
+            i += 1;
+        }
+        stores[count - 1] = Store {
+            kind: StoreKind::Client,
+        };
+        self.stores = stores;
+        self.count = count - 1;
+        self
+    }
+
+    // With one more store, the newest, if a cell is free.
+    pub fn push(mut self, store: Store) -> StoreBuffer
+        ensures { λ r. ⌜ r ≡ pushOrSame store self ⌝ }
+    {
+        let at = self.count;
+        if 64 <= at {
+            return self;
+        }
+        self.stores[at] = store;
+        self.count = at + 1;
+        self
+    }
+
+    // With the store that a step makes, if it makes one and a cell is free.
+    pub fn pushed(self, made: Push) -> StoreBuffer
+        ensures { λ r. ⌜ r ≡ pushedOrSame made self ⌝ }
+    {
+        match made {
+            Push::Nothing => return self,
+            Push::One(kind) => {
+                let store = Store { kind: kind };
+                return self.push(store);
+            }
+        }
+    }
+}

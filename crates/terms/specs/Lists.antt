@@ -1,0 +1,31 @@
+-- Tests and sums over a list, which the library does not have. Nothing here is of the paper.
+use mathlib.Core.Bool.{Bool, true, cond, _&&_}
+use mathlib.Core.List.{List, [], _∷_, _++_}
+use Prim.Native.Nat.{ℕ, zero, suc, _+_}
+use lib.Dec.{eqb}
+
+module _ {A : Type 0} where
+  -- the test passes at every element
+  abbrev pub all : (A → Bool) → List A → Bool
+  all f [] = true
+  all f (x ∷ l) = f x && all f l
+
+module _ {A B : Type 0} where
+  -- the lists of all elements, one after the other
+  abbrev pub concatMap : (A → List B) → List A → List B
+  concatMap f [] = []
+  concatMap f (x ∷ l) = f x ++ concatMap f l
+
+-- n numbers, from k up
+abbrev pub rangeFrom : ℕ → ℕ → List ℕ
+rangeFrom k zero = []
+rangeFrom k (suc n) = k ∷ rangeFrom (suc k) n
+
+-- 0 up to n, without n
+abbrev pub range : ℕ → List ℕ
+range n = rangeFrom 0 n
+
+-- how often a number stands in a list
+abbrev pub occurrences : ℕ → List ℕ → ℕ
+occurrences k [] = 0
+occurrences k (x ∷ l) = cond (eqb k x) 1 0 + occurrences k l
