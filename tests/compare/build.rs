@@ -1,4 +1,4 @@
-//! Links the static library with the doors.
+//! Links the static library of exported functions.
 //!
 //! `REHEARSAL_LIB_DIR` names the directory that holds `libexports.a`; without
 //! it the directory is `target/staticlib` at the root of the repository.

@@ -173,7 +173,7 @@ impl<'a> Case<'a> {
         Ok(())
     }
 
-    /// The doors lend no arrays back, the reference does: they are the file's.
+    /// The exported functions lend no arrays back, the reference does: they are the file's.
     fn arrays_as_read(&self, kinds: &[u8], operands: &[u32]) -> Verdict {
         let read = reference::read(self.file);
         let same = read.is_ok_and(|read| read.kinds == kinds && read.operands == operands);

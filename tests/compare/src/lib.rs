@@ -1,5 +1,5 @@
 //! Comparison of two implementations of the rehearsal bench: the one behind
-//! the doors of a static library and an independent one.
+//! the exported functions of a static library and an independent one.
 //!
 //! `compare` takes files through both and says whether they agree; `bench`
 //! takes the same files through both and says how long each needs.
@@ -7,7 +7,7 @@
 pub mod campaign;
 pub mod checks;
 pub mod damage;
-pub mod doors;
+pub mod ffi;
 pub mod edges;
 pub mod examples;
 pub mod generate;

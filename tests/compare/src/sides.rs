@@ -1,6 +1,6 @@
 //! Both implementations in one shape, so that each comparison is written once.
 
-use crate::doors;
+use crate::ffi;
 
 /// What an operation answers: refusal number 0 with a value, or a refusal
 /// number with its place.
@@ -27,7 +27,7 @@ impl Answer {
         self.number != 0
     }
 
-    /// Takes a door's answer apart: the number stands in the high half.
+    /// Takes an exported function's answer apart: the number stands in the high half.
     pub const fn unpack(answer: u64) -> Self {
         Answer {
             number: (answer >> 32) as u32,
@@ -39,7 +39,7 @@ impl Answer {
 /// Sizes, kinds, operands and the memory for the file.
 pub type Write = fn(&[u32; 6], &[u8], &[u32], &mut [u8]) -> Answer;
 
-/// One implementation. Lent memory and answers follow the doors' rules.
+/// One implementation. Lent memory and answers follow the rules of the exported functions.
 pub struct Side {
     pub name: &'static str,
     pub read: fn(&[u8], &mut [u8]) -> Answer,
@@ -49,14 +49,14 @@ pub struct Side {
     pub needed_margin: fn(u32, u32) -> u32,
 }
 
-/// The implementation behind the doors.
+/// The proved implementation, by its exported functions.
 pub static PROVED: Side = Side {
     name: "proved",
-    read: doors::read,
-    run: doors::run,
-    alike: doors::alike,
-    write: doors::write,
-    needed_margin: doors::needed_margin,
+    read: ffi::read,
+    run: ffi::run,
+    alike: ffi::alike,
+    write: ffi::write,
+    needed_margin: ffi::needed_margin,
 };
 
 /// The independent implementation.
@@ -123,7 +123,7 @@ fn reference_write(sizes: &[u32; 6], kinds: &[u8], operands: &[u32], file: &mut 
     }
 }
 
-/// Puts each number where its four bytes are all there, as the doors do with
+/// Puts each number where its four bytes are all there, as the exported functions do with
 /// lent memory that is too short.
 fn put_numbers(lent: &mut [u8], numbers: &[u32]) {
     for (place, number) in lent.chunks_exact_mut(4).zip(numbers) {

@@ -1,13 +1,13 @@
-//! The doors of the static library. Every `unsafe` of this package is here.
+//! The exported functions of the static library. Every `unsafe` of this package is here.
 //!
 //! All calls are sound for the same three reasons:
 //!
 //! * each pointer and length come from one live slice, so the memory is there,
 //!   aligned and initialised (an empty slice gives a pointer that is not null
 //!   and aligned, with length 0);
-//! * what a door may write is borrowed exclusively, so it overlaps nothing else
+//! * what a function may write is borrowed exclusively, so it overlaps nothing else
 //!   that the same call is lent, and what it only reads is borrowed shared;
-//! * a door accepts every content and every length, keeps no pointer after it
+//! * a function accepts every content and every length, keeps no pointer after it
 //!   has returned and has no state of its own, so threads may call at once.
 //!
 //! The comment at each call names what is particular to it.
@@ -84,7 +84,7 @@ pub fn alike(first: &[u8], second: &[u8]) -> Answer {
 pub fn write(sizes: &[u32; 6], kinds: &[u8], operands: &[u32], file: &mut [u8]) -> Answer {
     let [slots, buffer, spacing, margin, thieves, start] = *sizes;
     // SAFETY: the arrays are only read, `file` is exclusive; the length of
-    // `operands` counts numbers, not bytes, as the door expects.
+    // `operands` counts numbers, not bytes, as the function expects.
     let answer = unsafe {
         rehearsal_write(
             slots,
