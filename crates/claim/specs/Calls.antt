@@ -39,14 +39,14 @@ isNothing aTake = false
 isNothing aSteal = false
 
 -- Whether the running call takes effect at an entry, and then what the step decides: whether a put is FULL, a steal ABORT, or a take was won by
--- a swap (none of FF-THE's is).
+-- a compare-and-swap (02's request 5; none of 01's queue is).
 pub data Effect : Type 0 where
   none : Effect
   decided : Bool → Effect
 
 -- an effect that is there only where the test passes
 abbrev pub onlyWhere : Bool → Bool → Effect
-onlyWhere there full = cond there (decided full) none
+onlyWhere there decision = cond there (decided decision) none
 
 -- what the plain queue is told at an effect: the call that was begun
 abbrev pub callTold : Begun → Bool → List Told

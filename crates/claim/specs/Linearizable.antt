@@ -1,5 +1,5 @@
--- The claim that a queue answers as the plain queue does, and that no task is lost or given twice. Renders the two last paragraphs of
--- "Demand 3's plain queue".
+-- The claim that a queue answers as the plain queue does, and that no task is lost or given twice: linearizability. Renders, of "Demand 3's plain
+-- queue", the limits on what that queue is told and the paragraph on tasks that stand and are given; of which lists it is claimed, each queue says.
 use mathlib.Core.Path.{_≡_}
 use mathlib.Core.Bool.{Bool, true, cond}
 use mathlib.Core.List.{List, [], _∷_, _++_, map}

@@ -11,7 +11,7 @@ use Rattle.machine.specs.Machine.{done, hasRoom, needing, nothingPending
 
 -- ── The memory ──────────────────────────────────────────────────────────────────────────────────────────────────────────────
 
--- the machine whose oldest pending store has reached its place in memory, if it has one
+-- the machine after its oldest pending store has reached memory; a client store has no place there
 abbrev pub drained : Machine → Machine
 drained m =
     withMemory

@@ -11,7 +11,7 @@ use Rattle.machine.specs.Worker.{workerInRange}
 use Rattle.machine.specs.Thief.{thiefInRange}
 
 -- the sizes, how many stores are pending, the spacing count, and every index in memory, in a pending store or in a call; cells past the
--- pending stores hold nothing
+-- pending stores are not looked at
 unfoldable pub inRange : Machine → Bool
 inRange m =
     sizesInRange (m .sizes)

@@ -5,6 +5,7 @@
 -- sizes and margins, outcomes            Sizes, Outcome, of `terms`
 -- slots, pending stores                  Index, StoreBuffer, of `stores`
 -- the steps of put and take, of steal    Worker, Thief: the queue, which knows no machine
+-- a machine with a part replaced         Update
 -- the machine at first, and loads        Machine
 -- a step on the machine                  Perform
 -- every other entry                      Entries

@@ -66,7 +66,7 @@ standingInSlots m =
 
 -- ── The claim ───────────────────────────────────────────────────────────────────────────────────────────────────────────────
 
--- FF-THE, as far as the claim has to know it: the plain queue is told of every call
+-- FF-THE, the queue of 002's Figures 2a, 2b and 3, as far as the claim has to know it: the plain queue is told of every call
 abbrev pub ffThe : Implementation Machine Entry
 ffThe =
     record {

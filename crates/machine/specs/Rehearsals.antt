@@ -297,6 +297,35 @@ outOfPlace =
     ∷ does Drain Wait
     ∷ []
 
+-- 5 PLACE at each step of a call: while a put runs no other begins, nor a steal while that thief's runs
+abbrev pub placeWithinPut : List Line
+placeWithinPut = does (BeginPut 1) Moved ∷ workerMoves 1 ++ does (BeginPut 2) Place ∷ workerMoves 1 ++ does (BeginPut 2) Place ∷ workerGets Stored
+
+abbrev pub placeWithinSteal : Outcome → List Line
+placeWithinSteal o = does (BeginSteal 0) Moved ∷ concatMap (λ k. does (BeginSteal 0) Place ∷ thiefMoves 1) (rangeFrom 1 5) ++ does (BeginSteal 0) Place ∷ thiefGets o
+
+-- .. and a beginning that is out of place leaves the spacing count
+abbrev pub placeKeepsCount : List Line
+placeKeepsCount = puts 1 ++ takes 1 ++ clientStores 1 ++ does (BeginPut 2) Moved ∷ does BeginTake Place ∷ countIs 1 ∷ []
+
+-- a client store that waits is not counted
+abbrev pub waitCountsNothing : List Line
+waitCountsNothing =
+    countIs 0 ∷ filled 2 ++ clientStores 1 ++ takes 2 ++ does ClientStore Wait ∷ countIs 0 ∷ drains 1 ++ does BeginTake Early ∷ []
+
+-- a lock that is held stays held: a thief's, while the other waits and the worker looks on; the worker's, while a thief waits
+abbrev pub lockOfAThief : List Line
+lockOfAThief =
+    puts 1 ++ does (BeginSteal 0) Moved ∷ thiefMoves 1 ++ does (BeginSteal 1) Moved ∷ does (ThiefStep 1) Wait ∷ does (ThiefStep 1) Wait
+    ∷ putEnds 2 Full ++ does (ThiefStep 1) Wait ∷ does (BeginSteal 2) Wait ∷ does (ThiefStep 2) Wait ∷ []
+
+abbrev pub lockOfTheWorker : List Line
+lockOfTheWorker = does BeginTake Moved ∷ workerMoves 2 ++ drains 1 ++ workerMoves 1 ++ does (BeginSteal 0) Moved ∷ thiefGets Wait
+
+-- indices that start elsewhere than at 0, past pending stores
+abbrev pub fromAnotherStart : List Line
+fromAnotherStart = puts 1 ++ puts 2 ++ takes 2 ++ takes 1
+
 abbrev pub stories : List Row
 stories =
     story m2Sizes m2
@@ -329,6 +358,14 @@ stories =
     ∷ story (sizes 4 1 0 1 1 0) placeBeforeWait
     ∷ story (sizes 4 1 1 1 1 0) placeBeforeEarly
     ∷ story (sizes 4 2 0 2 2 0) outOfPlace
+    ∷ story (sizes 4 2 0 2 1 0) placeWithinPut
+    ∷ story (sizes 4 2 1 1 1 0) (filled 2 ++ placeWithinSteal (Task 1))
+    ∷ story (sizes 4 2 1 1 1 0) (filled 1 ++ placeWithinSteal Abort)
+    ∷ story (sizes 4 4 1 2 1 0) placeKeepsCount
+    ∷ story (sizes 4 2 1 1 1 0) waitCountsNothing
+    ∷ story (sizes 2 3 0 3 2 0) lockOfAThief
+    ∷ story (sizes 4 2 0 2 1 0) lockOfTheWorker
+    ∷ story (sizes 4 8 0 7 1 3) fromAnotherStart
     ∷ []
 
 -- a machine with this tail and no store pending

@@ -46,7 +46,7 @@ loads (StealUnlockTask x) = NoSlot
 loads (StealRestoreHead h) = NoSlot
 loads StealUnlockAbort = NoSlot
 
--- what a thief sees is in range
+-- what a thief's steps need of what it sees, to be computed in 64 bits
 pub record ThiefViewInRange (v : ThiefView) : Type 0 where
   pub tail : indexInRange (v .tail) ≡ true
   pub call : thiefInRange (v .call) ≡ true

@@ -1,4 +1,4 @@
--- A machine with some of its parts replaced and every other as it was. There is nothing here to believe but that.
+-- A machine with some of its parts replaced and every other as it was.
 use mathlib.Core.List.{List}
 use Prim.Native.Nat.{ℕ}
 use lib.ListN.{set}

@@ -59,7 +59,7 @@ loads TakeUnlockEmpty = NoSlot
 loads (TakeUnlockTask t) = NoSlot
 loads (TakeLoadLastSlot t) = SlotOf t
 
--- what the worker sees is in range
+-- what the worker's steps need of what it sees, to be computed in 64 bits
 pub record WorkerViewInRange (v : WorkerView) : Type 0 where
   pub slots : 1 ≤ v .slots
   pub tail : indexInRange (v .tail) ≡ true
@@ -102,7 +102,7 @@ atEnd v = eqZ (v .tail .at) (pos 2147483647)
 abbrev pub isFull : WorkerView → Bool
 isFull v = leZ (pos (v .slots - 1)) (v .tail .at -ℤ v .head .at)
 
--- step 1: look at head, and end there if the tail or the slots leave no room
+-- step 1: look at head, and end there if the tail is at its end or the slots are filled
 abbrev pub putLoadHead : ℕ → WorkerView → WorkerMove
 putLoadHead x v = cond (atEnd v) (answers End v) (cond (isFull v) (answers Full v) (goesOn (PutStoreSlot x) v))
 

@@ -225,7 +225,7 @@ impl WorkerView {
         tail.at_most(end) & end.at_most(tail)
     }
 
-    // Put, step 1: load head. The put ends here if the tail or the slots leave no room.
+    // Put, step 1: load head. The put ends here if the tail is at its end or the slots are filled.
     fn put_load_head(self, task: u32) -> WorkerMove
         requires { ⌜ WorkerViewInRange self ⌝ }
         ensures { λ r. ⌜ r ≡ putLoadHead task self ⌝ }

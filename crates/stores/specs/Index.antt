@@ -15,11 +15,11 @@ indexOf n = record { at = pos n }
 abbrev pub indexFrom : ℤ → Index → Bool
 indexFrom least i = leZ least (i .at) && leZ (i .at) (pos 2147483648)
 
--- an index that is not only there to reach a slot: from −1
+-- a value of head or tail: from −1
 abbrev pub indexInRange : Index → Bool
 indexInRange i = indexFrom (negsuc 0) i
 
--- an index that is there to reach a slot: from 0
+-- an index whose slot is stored to or loaded: from 0
 abbrev pub slotIndexInRange : Index → Bool
 slotIndexInRange i = indexFrom (pos 0) i
 
@@ -31,7 +31,7 @@ next i = record { at = i .at +ℤ pos 1 }
 abbrev pub previous : Index → Index
 previous i = record { at = i .at -ℤ pos 1 }
 
--- .. which an index out of range has not: it stays as it is
+-- .. of an index in range; any other stays as it is
 abbrev pub nextOrSame : Index → Index
 nextOrSame i = cond (indexInRange i) (next i) i
 

@@ -4,8 +4,10 @@
 -- who holds the lock                Lock
 -- pending stores, drains, loads     StoreBuffer
 -- how far takes are kept apart      Spacing
+-- at the edges of their ranges      Edges
 pub mod Types
 pub mod Index
 pub mod Lock
 pub mod StoreBuffer
 pub mod Spacing
+pub mod Edges

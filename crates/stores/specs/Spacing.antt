@@ -8,19 +8,19 @@ use Rattle.stores.specs.Types.{Spacing}
 abbrev pub noTake : Spacing
 noTake = record { count = 0; begun = false }
 
--- a take that begins is the one that stores are counted from
+-- a take that begins is the one that client stores are counted from
 abbrev pub takeBegins : Spacing
 takeBegins = record { count = 0; begun = true }
 
--- one more store of those that are counted, which counts only once a take has begun
+-- one more client store, which counts only once a take has begun; until then the count is 0
 abbrev pub counted : Spacing → Spacing
 counted s = record { count = cond (s .begun) (s .count + 1) 0; begun = s .begun }
 
--- .. unless the count is out of range: then it stays as it is
+-- .. unless the count is out of range: then all stays as it is
 abbrev pub countedOrSame : Spacing → Spacing
 countedOrSame s = cond (ltb 4096 (s .count)) s (counted s)
 
--- a take has begun before, and fewer stores were counted since then than the spacing
+-- a take has begun before, and fewer client stores were counted since then than the spacing
 abbrev pub tooEarly : Spacing → ℕ → Bool
 tooEarly s spacing = s .begun && ltb (s .count) spacing
 

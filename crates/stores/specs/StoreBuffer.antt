@@ -19,7 +19,7 @@ tailStore t = record { kind = Tail t }
 abbrev pub slotStore : Index → ℕ → Store
 slotStore i x = record { kind = Slot x i }
 
--- the pending stores, oldest first
+-- the pending stores, oldest first: all cells, where the count says more than there are
 abbrev pub pending : StoreBuffer → List Store
 pending b = take (b .count) (b .stores)
 
@@ -51,7 +51,7 @@ abbrev pub pushedOrSame : Push → StoreBuffer → StoreBuffer
 pushedOrSame Nothing b = b
 pushedOrSame (One k) b = pushOrSame (record { kind = k }) b
 
--- the store that has been pending longest
+-- the store that has been pending longest; what the first cell holds, where none is
 abbrev pub oldest : StoreBuffer → Store
 oldest b = getD (b .stores) 0 clientStore
 
@@ -83,7 +83,7 @@ slotsAfter n slots (Slot x i) = set slots (slotOf n i) x
 
 -- ── The worker's loads ──────────────────────────────────────────────────────────────────────────────────────────────────────
 
--- What the worker loads from a place while stores are pending: from memory's value on, oldest first, each
+-- What the worker loads from a place while stores are pending (store-to-load forwarding): from memory's value on, oldest first, each
 -- pending store to that place supersedes what was found so far. The place of a slot store is its slot, whichever index led there.
 
 abbrev pub newestTail : Index → StoreBuffer → Index

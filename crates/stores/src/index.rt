@@ -34,14 +34,14 @@ impl Index {
         (least <= at) & (at <= 2147483648)
     }
 
-    // Whether a machine may hold it where it is not only there to reach a slot.
+    // Whether a machine may hold it as a value of head or tail.
     pub fn in_range(self) -> bool
         ensures { λ r. ⌜ r ≡ indexInRange self ⌝ }
     {
         self.in_range_from(-1)
     }
 
-    // Whether a machine may hold it in order to reach its slot.
+    // Whether a machine may hold it in order to store to its slot, or to load it.
     pub fn slot_in_range(self) -> bool
         ensures { λ r. ⌜ r ≡ slotIndexInRange self ⌝ }
     {
@@ -60,14 +60,14 @@ impl Index {
         self
     }
 
-    // The index one above, of one in range.
+    // The index one above. One out of range stays as it is.
     pub fn next(self) -> Index
         ensures { λ r. ⌜ r ≡ nextOrSame self ⌝ }
     {
         self.offset(1)
     }
 
-    // The index one below, of one in range.
+    // The index one below. One out of range stays as it is.
     pub fn previous(self) -> Index
         ensures { λ r. ⌜ r ≡ previousOrSame self ⌝ }
     {

@@ -4,7 +4,7 @@ ghost use Rattle.stores.specs.Spacing.{countedOrSame, spacingInRange, ta
 
 // What the spacing rule goes by.
 pub struct Spacing {
-    // The spacing count: stores made since the last take began, and 0 before the first.
+    // The spacing count: client stores made since the last take began, and 0 before the first.
     pub count: u32,
     // Whether a take has begun.
     pub begun: bool,
@@ -18,7 +18,7 @@ impl Spacing {
         self.count <= 4096
     }
 
-    // After one more store of those that are counted, if the count is in range.
+    // After one more client store. A count out of range stays as it is.
     pub fn counted(self) -> Spacing
         ensures { λ r. ⌜ r ≡ countedOrSame self ⌝ }
     {

@@ -16,7 +16,7 @@ ghost use Rattle.stores.specs.StoreBuffer.{
   tailAfter,
 };
 
-// What a store writes to, with its value.
+// What a store writes to, with the value if it has one.
 pub enum StoreKind {
     // The client's own memory, which the machine does not have: the value is 0 and goes nowhere.
     Client,
@@ -42,7 +42,7 @@ pub struct StoreBuffer {
     // The pending stores stand in the first `count` cells. A machine's own operations keep the client store in the
     // others, so that equal buffers have equal cells.
     pub stores: [Store; 64],
-    // How many are pending.
+    // How many are pending; where that is more than there are cells, all cells are.
     pub count: usize,
 }
 
@@ -156,7 +156,7 @@ impl StoreBuffer {
         ok
     }
 
-    // The store that has been pending longest.
+    // The store that has been pending longest; what the first cell holds, where none is pending.
     pub fn oldest(self) -> Store
         ensures { λ r. ⌜ r ≡ oldest self ⌝ }
     {

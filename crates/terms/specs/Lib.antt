@@ -5,7 +5,7 @@
 -- refusals, their numbers and places    Refusal
 -- kinds, operands; KIND and WHO         Kinds
 -- the three totals                      Tally
--- tests and sums over lists             Lists
+-- functions on lists                    Lists
 pub mod Types
 pub mod Sizes
 pub mod Outcome

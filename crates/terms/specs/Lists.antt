@@ -1,4 +1,4 @@
--- Tests and sums over a list, which the library does not have. Nothing here is of the paper.
+-- Lists: functions that the library does not have. Nothing here is of the paper.
 use mathlib.Core.Bool.{Bool, true, cond, _&&_}
 use mathlib.Core.List.{List, [], _∷_, _++_}
 use Prim.Native.Nat.{ℕ, zero, suc, _+_}

@@ -1,0 +1,95 @@
+-- What the operations hand back at the edges of their ranges, and past them, as one table of tests. `proofs/Edges.antt` proves one fact: each passes.
+use mathlib.Core.Bool.{Bool, true, false, not}
+use mathlib.Core.List.{List, [], _∷_, _++_}
+use Prim.Native.Nat.{ℕ}
+use lib.Dec.{eqb}
+use lib.IntN.{ℤ, pos, negsuc}
+use lib.ListN.{length, replicate}
+use Rattle.stores.specs.Types.{Index, Slot, Spacing, Store, StoreBuffer}
+use Rattle.stores.specs.Index.{aboveBy, belowByMore, eqZ, indexInRange, nextOrSame, previousOrSame, slotIndexInRange, slotOf}
+use Rattle.stores.specs.StoreBuffer.{clientStore, dropOldestOrSame, pending, pushOrSame, slotAfter, storeInRange, tailStore}
+use Rattle.stores.specs.Spacing.{countedOrSame, noTake, spacingInRange, takeBegins, tooEarly}
+
+abbrev pub index : ℤ → Index
+index z = record { at = z }
+
+-- a buffer that says it has so many pending
+abbrev pub holding : ℕ → StoreBuffer
+holding n = record { stores = replicate 64 clientStore; count = n }
+
+abbrev pub counting : ℕ → Bool → Spacing
+counting n b = record { count = n; begun = b }
+
+-- −1 to 2,147,483,648, a slot's from 0
+abbrev pub ranges : List Bool
+ranges =
+    not (indexInRange (index (negsuc 1)))
+    ∷ indexInRange (index (negsuc 0))
+    ∷ indexInRange (index (pos 2147483648))
+    ∷ not (indexInRange (index (pos 2147483649)))
+    ∷ not (slotIndexInRange (index (negsuc 0)))
+    ∷ slotIndexInRange (index (pos 0))
+    ∷ not (storeInRange (Slot 1 (index (negsuc 0))))
+    ∷ spacingInRange (counting 4096 true)
+    ∷ not (spacingInRange (counting 4097 true))
+    ∷ []
+
+abbrev pub neighbours : List Bool
+neighbours =
+    eqZ (nextOrSame (index (negsuc 0)) .at) (pos 0)
+    ∷ eqZ (nextOrSame (index (pos 2147483648)) .at) (pos 2147483649)
+    ∷ eqZ (nextOrSame (index (pos 2147483649)) .at) (pos 2147483649)
+    ∷ eqZ (previousOrSame (index (pos 0)) .at) (negsuc 0)
+    ∷ eqZ (previousOrSame (index (negsuc 0)) .at) (negsuc 1)
+    ∷ eqZ (previousOrSame (index (negsuc 1)) .at) (negsuc 1)
+    ∷ []
+
+-- T − d ≥ h and h < T − d, at the distance and one past it, and with −1
+abbrev pub distances : List Bool
+distances =
+    aboveBy (index (pos 5)) (index (pos 2)) 3
+    ∷ not (aboveBy (index (pos 5)) (index (pos 2)) 4)
+    ∷ aboveBy (index (pos 0)) (index (negsuc 0)) 1
+    ∷ belowByMore (index (pos 2)) (index (pos 5)) 2
+    ∷ not (belowByMore (index (pos 2)) (index (pos 5)) 3)
+    ∷ not (belowByMore (index (pos 0)) (index (negsuc 0)) 0)
+    ∷ []
+
+-- the remainder; 0 below 0; the index itself where there are no slots. A store to an index reaches its slot alone.
+abbrev pub slots : List Bool
+slots =
+    eqb (slotOf 4 (index (pos 7))) 3
+    ∷ eqb (slotOf 4 (index (negsuc 0))) 0
+    ∷ eqb (slotOf 0 (index (pos 7))) 7
+    ∷ eqb (slotAfter 4 3 9 (Slot 1 (index (pos 7)))) 1
+    ∷ eqb (slotAfter 4 2 9 (Slot 1 (index (pos 7)))) 9
+    ∷ []
+
+-- a store more, where a cell is free; one less, where one is pending
+abbrev pub buffers : List Bool
+buffers =
+    eqb (pushOrSame (tailStore (index (pos 1))) (holding 63) .count) 64
+    ∷ eqb (pushOrSame (tailStore (index (pos 1))) (holding 64) .count) 64
+    ∷ eqb (dropOldestOrSame (holding 0) .count) 0
+    ∷ eqb (length (dropOldestOrSame (holding 0) .stores)) 64
+    ∷ eqb (dropOldestOrSame (holding 1) .count) 0
+    ∷ eqb (dropOldestOrSame (holding 64) .count) 63
+    ∷ eqb (dropOldestOrSame (holding 65) .count) 65
+    ∷ eqb (length (pending (holding 65))) 64
+    ∷ []
+
+-- stores count once a take has begun, from 0 again at each, and the first take is free
+abbrev pub spacings : List Bool
+spacings =
+    eqb (countedOrSame (counting 4096 true) .count) 4097
+    ∷ eqb (countedOrSame (counting 4097 true) .count) 4097
+    ∷ eqb (countedOrSame noTake .count) 0
+    ∷ eqb (countedOrSame (counting 5 false) .count) 0
+    ∷ not (tooEarly noTake 1)
+    ∷ tooEarly takeBegins 1
+    ∷ not (tooEarly (countedOrSame takeBegins) 1)
+    ∷ tooEarly (countedOrSame takeBegins) 2
+    ∷ []
+
+abbrev pub edges : List Bool
+edges = ranges ++ neighbours ++ distances ++ slots ++ buffers ++ spacings
