@@ -1,8 +1,10 @@
 pub mod Laws
 pub mod Lawful
 pub mod Account
+pub mod Sum
 pub mod Turn
 pub mod Follows
 pub mod Theorem
+pub mod Stored
 pub mod Entries
 pub mod Watched

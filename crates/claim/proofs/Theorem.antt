@@ -4,17 +4,19 @@ use mathlib.Core.Bool.{Bool, true, false, cond}
 use mathlib.Core.List.{List, [], _∷_, _++_, map}
 use Prim.Native.Nat.{ℕ, suc, _+_, _≤_, _<_}
 use native.Mathlib.Omega.{arith}
-use lib.ListN.{length}
+use lib.ListN.{length, length-map}
 use Rattle.terms.specs.Lists.{all}
 use Rattle.terms.specs.Outcome.{isAnswer}
+use Rattle.terms.proofs.Laws.Sums.{adds-length}
 use Rattle.claim.specs.Types.{Outcome, Sizes}
 use Rattle.claim.specs.PlainQueue.{withinLimits}
 use Rattle.claim.specs.Calls.{Party, answersTo, parties}
 use Rattle.claim.specs.Implementation.{Implementation}
 use Rattle.claim.specs.Watch.{Event, Watch, callAt, eventAt, events, toldAt, watchAfter, watchFresh, watched}
+use Rattle.claim.specs.Account.{storedIn}
 use Rattle.claim.specs.Linearizable.{Linearizable, answering, expected, noCallRuns}
 use Rattle.claim.proofs.Lawful.{Lawful}
-use Rattle.claim.proofs.Account.{account-noOther, account-once}
+use Rattle.claim.proofs.Account.{account-numbers, account-once, stored-many}
 
 module _ {M E : Type 0} (b : Implementation M E) (most : ℕ) (Inv : ℕ → Watch M → Type 0) (keeps : (n : ℕ) (w : Watch M) → n < most → Inv n w → (e : E) → Inv (n + 1) (watchAfter b w e)) where
   -- the invariant at the end of a list of so many entries at most
@@ -78,6 +80,13 @@ module _ {M E : Type 0} {b : Implementation M E} (lawful : Lawful b) {s : Sizes}
         held = held;
         limits = run-limits 0 (watchFresh b s) es few at-first;
         once = account-once lawful s es;
-        noOther = account-noOther lawful s es answers held;
+        noOther =
+            omega (
+              arith,
+              account-numbers adds-length lawful s es answers held,
+              length-map (w .queue .tasks) (λ t. t .number),
+              length-map (storedIn (events b (watchFresh b s) es)) (λ t. t .number),
+              stored-many b s es,
+            );
         standing = λ quiet. shows .standing _ w v quiet;
       }

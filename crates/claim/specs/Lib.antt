@@ -4,10 +4,12 @@
 -- parties, calls, effects               Calls
 -- what the claim has to know of a queue Implementation
 -- a run watched                         Watch
+-- the plain queue's account of a run    Account
 -- the claim                             Linearizable
 pub mod Types
 pub mod PlainQueue
 pub mod Calls
 pub mod Implementation
 pub mod Watch
+pub mod Account
 pub mod Linearizable

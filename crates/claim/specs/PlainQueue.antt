@@ -77,3 +77,17 @@ withinLimits n q (toldPut x true) = leb (n - 1) (length (q .tasks))
 withinLimits n q (toldPut x false) = eqb (q .sum) 2147483647 || ltb (length (q .tasks)) n
 withinLimits n q (toldTake swapped) = true
 withinLimits n q (toldSteal abort) = abort || ltb 0 (length (q .tasks))
+
+-- ── What a call adds to the account ─────────────────────────────────────────────────────────────────────────────────────────
+
+-- the task of a put that is STORED, in a list of at most one
+abbrev pub storedBy : PlainQueue → Told → List StoredTask
+storedBy q (toldPut x full) = cond (eqb (q .sum) 2147483647 || full) [] (record { put = q .stored; number = x } ∷ [])
+storedBy q (toldTake swapped) = []
+storedBy q (toldSteal abort) = []
+
+-- the task that a take gives to the worker, unless a swap won it
+abbrev pub takenBy : PlainQueue → Told → List StoredTask
+takenBy q (toldPut x full) = []
+takenBy q (toldTake swapped) = cond swapped [] (respond q (toldTake swapped) .given)
+takenBy q (toldSteal abort) = []

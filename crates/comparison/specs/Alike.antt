@@ -6,21 +6,23 @@ use Prim.Native.Nat.{ℕ, _+_, _<_}
 use lib.Dec.{eqb}
 use Rattle.terms.specs.Lists.{all, range}
 use Rattle.terms.specs.Outcome.{isAnswer}
-use Rattle.comparison.specs.Types.{Accepted, Alike, BeginPut, BeginSteal, BeginTake, ClientStore, Drain, Entry, FirstRefused, Likeness, NotAlike, Outcome, Reading, SecondRefused, Sizes, ThiefStep, WorkerStep}
+use Rattle.terms.specs.Refusal.{Refuses}
+use Rattle.claim.specs.Calls.{Party, worker, thief, partyOf}
+use Rattle.comparison.specs.Types.{Accepted, Alike, Entry, FirstRefused, Likeness, NotAlike, Outcome, Reading, SecondRefused, Sizes}
 use Rattle.schedule.specs.declared.reader.Reading.the-variants as reading
+use Rattle.schedule.specs.Faults.{fileHas}
 use Rattle.schedule.specs.Reader.{readFile}
 use Rattle.schedule.specs.Run.{outcomesIn, scheduleIn}
 use Rattle.schedule.specs.Trace.{Line, lineOf}
 
--- whose entry it is, counted: the worker is 0, and thief i is i + 1
+-- parties counted: the worker is 0, and thief i is i + 1
+abbrev pub counted : Party → ℕ
+counted worker = 0
+counted (thief i) = i + 1
+
+-- whose entry it is
 abbrev pub partyNumber : Entry → ℕ
-partyNumber Drain = 0
-partyNumber ClientStore = 0
-partyNumber (BeginPut x) = 0
-partyNumber BeginTake = 0
-partyNumber WorkerStep = 0
-partyNumber (BeginSteal i) = i + 1
-partyNumber (ThiefStep i) = i + 1
+partyNumber e = counted (partyOf e)
 
 -- the answers that a party gets, with their values, in their order; 0, 5, 6 and 7 are no answers
 abbrev pub answersFor : ℕ → List Entry → List Outcome → List Line
@@ -65,6 +67,13 @@ likenessOf first second (Accepted s n) (Accepted t m) = cond (sameSizes s t && s
 -- whether two files are alike; a refused file decides, the first one first
 abbrev pub likeness : List ℕ → List ℕ → Likeness
 likeness first second = likenessOf first second (readFile first) (readFile second)
+
+-- Which faults two compared files have, by the refusal in the answer: number and place are those of a fault of the first file; or it has none, and they are those of a fault of the second.
+abbrev pub LikenessRefuses : List ℕ → List ℕ → Likeness → Type 0
+LikenessRefuses first second Alike = Refuses (fileHas first) [] × Refuses (fileHas second) []
+LikenessRefuses first second NotAlike = Refuses (fileHas first) [] × Refuses (fileHas second) []
+LikenessRefuses first second (FirstRefused r) = Refuses (fileHas first) (r ∷ [])
+LikenessRefuses first second (SecondRefused r) = Refuses (fileHas first) [] × Refuses (fileHas second) (r ∷ [])
 
 -- ── What alike means ────────────────────────────────────────────────────────────────────────────────────────────────────────
 

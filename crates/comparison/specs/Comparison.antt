@@ -3,21 +3,23 @@
 use mathlib.Core.Bool.{Bool, cond, _&&_}
 use mathlib.Core.List.{List, [], _∷_}
 use Prim.Native.Nat.{ℕ, zero, suc, _+_, _-_}
-use lib.Dec.{eqb, leb, ltb}
+use lib.Dec.{eqb, ltb}
 use lib.ListN.{getD}
+use Rattle.terms.specs.Outcome.{isAnswerNumber}
 use Rattle.terms.specs.Lists.{all, concatMap, rangeFrom, range}
-use Rattle.comparison.specs.Alike.{sameLines}
+use Rattle.claim.specs.Calls.{worker, thief}
+use Rattle.comparison.specs.Alike.{counted, sameLines}
 use Rattle.schedule.specs.Format.{kindsIn, operandsIn}
 use Rattle.schedule.specs.Trace.{Line, lineIn}
 
--- whose entry it is, by its kind and its operand
+-- whose entry it is, by its kind and its operand: of allowed entries the same as `partyNumber` (`party-of-entry`, `proofs/Laws/Alike.antt`)
 abbrev pub partyIn : ℕ → ℕ → ℕ
-partyIn kind operand = cond (ltb kind 5) 0 (operand + 1)
+partyIn kind operand = counted (cond (ltb kind 5) worker (thief operand))
 
 -- of a file of so many entries and its trace: whether the entry at a place gets an answer, and for the party
 abbrev pub answered : ℕ → ℕ → List ℕ → List ℕ → ℕ → Bool
 answered party entries file trace at =
-    leb 16 (lineIn entries trace at .number) && eqb (partyIn (getD (kindsIn entries file) at 0) (getD (operandsIn entries file) at 0)) party
+    isAnswerNumber (lineIn entries trace at .number) && eqb (partyIn (getD (kindsIn entries file) at 0) (getD (operandsIn entries file) at 0)) party
 
 -- of so many places, from a given one on, the first at which a test passes, or else the one behind the last
 abbrev pub firstFrom : (ℕ → Bool) → ℕ → ℕ → ℕ

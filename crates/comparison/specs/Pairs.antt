@@ -3,7 +3,8 @@ use mathlib.Core.Bool.{Bool, true, false}
 use mathlib.Core.List.{List, [], _∷_, _++_}
 use Prim.Native.Nat.{ℕ}
 use Rattle.schedule.specs.Format.{fileOf}
-use Rattle.schedule.specs.Edges.{refusedBy, sized}
+use Rattle.terms.specs.Sizes.{sized}
+use Rattle.terms.specs.Refusal.{refusedBy}
 use Rattle.schedule.specs.Runs.{drains, file, put, steal, take}
 use Rattle.comparison.specs.Types.{Alike, FirstRefused, Likeness, NotAlike, SecondRefused}
 use Rattle.comparison.specs.Types.{BeginPut, BeginSteal, BeginTake, Drain, Entry, ThiefStep, WorkerStep}

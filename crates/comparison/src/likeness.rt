@@ -1,7 +1,7 @@
 ghost use mathlib.Core.Path.{_≡_};
 ghost use Prim.Native.Nat.{_+_, _*_, _-_, _≤_, _<_};
 ghost use lib.ListN.{length};
-ghost use Rattle.comparison.specs.Alike.{likeness, sameAnswers, sameLine, sameSizes};
+ghost use Rattle.comparison.specs.Alike.{LikenessRefuses, likeness, sameAnswers, sameLine, sameSizes};
 ghost use Rattle.comparison.specs.Comparison.{answered, firstFrom, partyIn, sameFor, sameForAll};
 ghost use Rattle.schedule.specs.Reader.{readFile};
 ghost use Rattle.schedule.specs.Trace.{lineIn};
@@ -15,6 +15,7 @@ use schedule::refusal_of;
 use schedule::run;
 use terms::Refusal;
 use terms::Sizes;
+use terms::is_answer;
 
 // The answer of comparing two files.
 pub enum Likeness {
@@ -67,7 +68,7 @@ fn next_answer(party: usize, entries: usize, file: &[u8], trace: &[u8], from: us
 {
     let mut at = from;
     while at < entries {
-        if trace[4 + at] >= 16 {
+        if is_answer(trace[4 + at]) {
             let operand = word_at(file, SIZES_BYTES + entries + 4 * at);
             if party_of(file[SIZES_BYTES + at], operand) == party {
                 return at;
@@ -174,6 +175,7 @@ fn same_runs(sizes: Sizes, entries: usize, file: &[u8], others: usize, other: &[
 // Whether two schedules are alike. A refused file decides, the first one first; then the sizes do, and only then are the files run.
 pub fn alike(first: &[u8], second: &[u8]) -> Likeness
     ensures { λ r. ⌜ r ≡ likeness (now (first .entry)) (now (second .entry)) ⌝ }
+    ensures { λ r. ⌜ LikenessRefuses (now (first .entry)) (now (second .entry)) r ⌝ }
 {
     let reading = read(first);
     let Reading::Accepted(sizes, entries) = reading else {

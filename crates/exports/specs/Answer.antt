@@ -1,28 +1,41 @@
 -- What an exported function answers, and what lent memory holds afterwards. Numbers and places are those of "The numbers, by who can cause them" in the scope paper, 01.
+use mathlib.Core.Bool.{Bool, cond}
 use mathlib.Core.List.{List, [], _∷_}
 use Prim.Native.Nat.{ℕ, _+_, _*_, _%_}
+use lib.Dec.{ltb}
+use lib.ListN.{length}
 use Rattle.terms.specs.Refusal.{numberOf, placeOf}
 use Rattle.schedule.specs.declared.reader.Reading.the-variants as reading
 use Rattle.schedule.specs.declared.runner.Running.the-variants as running
 use Rattle.writer.specs.declared.writer.Writing.the-variants as writing
+use Rattle.schedule.specs.Reader.{readFile}
+use Rattle.schedule.specs.Run.{runFile, traceAfter}
 use Rattle.number.specs.Number.{wordPut}
-use Rattle.exports.specs.Types.{Accepted, Alike, FirstRefused, Likeness, NotAlike, Ran, Reading, Refusal, Running, SecondRefused, Sizes, Tally, Writing, Written}
+use Rattle.exports.specs.Types.{Accepted, Alike, FirstRefused, Likeness, NotAlike, Ran, Reading, Refusal, Room, Running, SecondRefused, Sizes, Tally, Writing, Written}
 
 -- a refusal as one number of 64 bits: its number in the upper half, and in the lower the 32 lowest bits of its place. Places are below 4,097, so that is the place.
 abbrev pub refusalAnswer : Refusal → ℕ
 refusalAnswer r = numberOf r * 4294967296 + placeOf r % 4294967296
 
--- numbers put one behind the other into lent bytes, four bytes each, the least significant first; one that does not fit is left out, which 01 leaves open
+-- numbers put one behind the other into lent bytes, four bytes each, the least significant first; the functions below see to it that all fit
 abbrev pub wordsPut : ℕ → List ℕ → List ℕ → List ℕ
 wordsPut at [] bytes = bytes
 wordsPut at (n ∷ ns) bytes = wordsPut (at + 4) ns (wordPut at n bytes)
 
 -- ── Reading ─────────────────────────────────────────────────────────────────────────────────────────────────────────────────
 
--- the number of entries, or the refusal
-abbrev pub readingAnswer : Reading → ℕ
-readingAnswer (Accepted s entries) = entries
-readingAnswer (reading.Refused r) = refusalAnswer r
+-- the refusal of a file, or else ROOM, where too few bytes are lent for what is to be told of it
+abbrev pub refusalOrRoom : Reading → Refusal
+refusalOrRoom (Accepted s entries) = Room
+refusalOrRoom (reading.Refused r) = r
+
+abbrev pub tooFew : ℕ → List ℕ → Bool
+tooFew needed bytes = ltb (length bytes) needed
+
+-- the number of entries, or the refusal; 24 bytes are to be lent for the sizes
+abbrev pub readingAnswer : Reading → List ℕ → ℕ
+readingAnswer (Accepted s entries) bytes = cond (tooFew 24 bytes) (refusalAnswer Room) entries
+readingAnswer (reading.Refused r) bytes = refusalAnswer r
 
 -- six sizes in the order of the file, as written there
 abbrev pub sizesPut : Sizes → List ℕ → List ℕ
@@ -30,10 +43,14 @@ sizesPut s bytes = wordsPut 0 (s .slots ∷ s .buffer ∷ s .spacing ∷ s .marg
 
 -- what the bytes that are lent for the sizes hold afterwards
 abbrev pub sizesAfter : Reading → List ℕ → List ℕ
-sizesAfter (Accepted s entries) bytes = sizesPut s bytes
+sizesAfter (Accepted s entries) bytes = cond (tooFew 24 bytes) bytes (sizesPut s bytes)
 sizesAfter (reading.Refused r) bytes = bytes
 
 -- ── Running ─────────────────────────────────────────────────────────────────────────────────────────────────────────────────
+
+-- the answer of a run into a trace buffer of so many bytes; 12 bytes are to be lent for the totals, or nothing is run
+abbrev pub runInto : List ℕ → ℕ → List ℕ → Running
+runInto file room totals = cond (tooFew 12 totals) (running.Refused (refusalOrRoom (readFile file))) (runFile file room)
 
 -- 0, or the refusal
 abbrev pub runningAnswer : Running → ℕ
@@ -44,10 +61,13 @@ runningAnswer (running.Refused r) = refusalAnswer r
 abbrev pub totalsPut : Tally → List ℕ → List ℕ
 totalsPut t bytes = wordsPut 0 (t .given ∷ t .aborts ∷ t .waits ∷ []) bytes
 
--- what the bytes that are lent for the totals hold afterwards
+-- what the bytes that are lent for the totals hold afterwards, and what the trace buffer does
 abbrev pub totalsAfter : Running → List ℕ → List ℕ
 totalsAfter (Ran t) bytes = totalsPut t bytes
 totalsAfter (running.Refused r) bytes = bytes
+
+abbrev pub traceInto : List ℕ → List ℕ → List ℕ → List ℕ
+traceInto file trace totals = cond (tooFew 12 totals) trace (traceAfter file trace)
 
 -- ── Comparing ───────────────────────────────────────────────────────────────────────────────────────────────────────────────
 
@@ -59,10 +79,6 @@ likenessAnswer (FirstRefused r) = refusalAnswer r
 likenessAnswer (SecondRefused r) = refusalAnswer r
 
 -- ── Writing ─────────────────────────────────────────────────────────────────────────────────────────────────────────────────
-
--- six numbers as sizes
-abbrev pub sizesOf : ℕ → ℕ → ℕ → ℕ → ℕ → ℕ → Sizes
-sizesOf slots buffer spacing margin thieves start = record { slots = slots; buffer = buffer; spacing = spacing; margin = margin; thieves = thieves; start = start }
 
 -- how many bytes the file has, or the refusal
 abbrev pub writingAnswer : Writing → ℕ

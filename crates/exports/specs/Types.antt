@@ -1,5 +1,6 @@
 -- The declared types that the definitions beside this file speak of, passed on under one name. Nothing is defined here.
 pub use Rattle.terms.specs.declared.refusal.Refusal.{Refusal}
+pub use Rattle.terms.specs.declared.refusal.Refusal.the-variants.{Room}
 pub use Rattle.terms.specs.declared.sizes.Sizes.{Sizes}
 pub use Rattle.terms.specs.declared.tally.Tally.{Tally}
 pub use Rattle.schedule.specs.declared.reader.Reading.{Reading}

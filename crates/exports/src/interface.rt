@@ -2,46 +2,54 @@ ghost use mathlib.Core.Path.{_≡_};
 ghost use lib.ListN.{length};
 ghost use Rattle.comparison.specs.Alike.{likeness};
 ghost use Rattle.schedule.specs.Reader.{readFile};
-ghost use Rattle.schedule.specs.Run.{runFile, traceAfter};
-ghost use Rattle.terms.specs.Sizes.{neededMargin};
+ghost use Rattle.terms.specs.Sizes.{neededMargin, sized};
 ghost use Rattle.writer.specs.Writer.{bufferAfter, writeFile};
-ghost use Rattle.exports.specs.Answer.{likenessAnswer, readingAnswer, runningAnswer, sizesAfter, sizesOf, totalsAfter, writingAnswer};
+ghost use Rattle.exports.specs.Answer.{likenessAnswer, readingAnswer, runInto, runningAnswer, sizesAfter, totalsAfter, traceInto, writingAnswer};
 use crate::answer::answer_of;
 use crate::answer::likeness_of;
 use crate::answer::put_sizes;
 use crate::answer::put_totals;
+use crate::answer::refusal_or_room;
 use comparison::alike;
 use schedule::Reading;
 use schedule::Running;
 use schedule::read;
 use schedule::refusal_of;
 use schedule::run;
+use terms::Refusal;
 use terms::Sizes;
 use terms::needed_margin;
 use writer::Writing;
 use writer::write;
 
-// Reads a schedule file. Tells the number of its entries, and puts its six sizes, as written, into the 24 bytes that are lent for them.
+// Reads a schedule file. Tells the number of its entries, and puts its six sizes, as written, into the 24 bytes that are lent for them; with fewer, it is ROOM.
 #[no_mangle]
 pub extern "C" fn rehearsal_read(file: &[u8], sizes: &mut [u8]) -> u64
-    ensures { λ r. ⌜ r ≡ readingAnswer (readFile (now (file .entry))) ⌝ }
+    ensures { λ r. ⌜ r ≡ readingAnswer (readFile (now (file .entry))) (now (sizes .entry)) ⌝ }
     ensures { λ _. ⌜ now (sizes .exit) ≡ sizesAfter (readFile (now (file .entry))) (now (sizes .entry)) ⌝ }
 {
     let reading = read(file);
     let Reading::Accepted(found, entries) = reading else {
         return answer_of(refusal_of(reading));
     };
+    if sizes.len() < 24 {
+        return answer_of(Refusal::Room);
+    }
     put_sizes(sizes, found);
     entries as u64
 }
 
-// Runs a schedule file and writes its trace. Tells 0, and puts the totals, given, aborts and waits, into the 12 bytes that are lent for them.
+// Runs a schedule file and writes its trace. Tells 0, and puts the totals, given, aborts and waits, into the 12 bytes that are lent for them; with fewer, it is ROOM, and
+// nothing is run.
 #[no_mangle]
 pub extern "C" fn rehearsal_run(file: &[u8], trace: &mut [u8], totals: &mut [u8]) -> u64
-    ensures { λ r. ⌜ r ≡ runningAnswer (runFile (now (file .entry)) (length (now (trace .entry)))) ⌝ }
-    ensures { λ _. ⌜ now (trace .exit) ≡ traceAfter (now (file .entry)) (now (trace .entry)) ⌝ }
-    ensures { λ _. ⌜ now (totals .exit) ≡ totalsAfter (runFile (now (file .entry)) (length (now (trace .entry)))) (now (totals .entry)) ⌝ }
+    ensures { λ r. ⌜ r ≡ runningAnswer (runInto (now (file .entry)) (length (now (trace .entry))) (now (totals .entry))) ⌝ }
+    ensures { λ _. ⌜ now (trace .exit) ≡ traceInto (now (file .entry)) (now (trace .entry)) (now (totals .entry)) ⌝ }
+    ensures { λ _. ⌜ now (totals .exit) ≡ totalsAfter (runInto (now (file .entry)) (length (now (trace .entry))) (now (totals .entry))) (now (totals .entry)) ⌝ }
 {
+    if totals.len() < 12 {
+        return answer_of(refusal_or_room(file));
+    }
     let running = run(file, trace);
     match running {
         Running::Ran(tally) => {
@@ -73,8 +81,8 @@ pub extern "C" fn rehearsal_write(
     operands: &[u32],
     file: &mut [u8],
 ) -> u64
-    ensures { λ r. ⌜ r ≡ writingAnswer (writeFile (sizesOf slots buffer spacing margin thieves start) (now (kinds .entry)) (now (operands .entry)) (length (now (file .entry)))) ⌝ }
-    ensures { λ _. ⌜ now (file .exit) ≡ bufferAfter (sizesOf slots buffer spacing margin thieves start) (now (kinds .entry)) (now (operands .entry)) (now (file .entry)) ⌝ }
+    ensures { λ r. ⌜ r ≡ writingAnswer (writeFile (sized slots buffer spacing margin thieves start) (now (kinds .entry)) (now (operands .entry)) (length (now (file .entry)))) ⌝ }
+    ensures { λ _. ⌜ now (file .exit) ≡ bufferAfter (sized slots buffer spacing margin thieves start) (now (kinds .entry)) (now (operands .entry)) (now (file .entry)) ⌝ }
 {
     let sizes = Sizes {
         slots: slots,

@@ -4,7 +4,7 @@ use mathlib.Core.Bool.{Bool}
 use mathlib.Core.List.{List, [], _∷_}
 use Prim.Native.Nat.{ℕ}
 use Prim.Native.String.{String}
-use Rattle.schedule.specs.Edges.{equal}
+use Rattle.terms.specs.Lists.{equal}
 use Rattle.schedule.specs.Format.{fileOf}
 use Rattle.lines.specs.Types.{Sizes}
 use Rattle.lines.specs.Text.{ascii, decimal}

@@ -21,7 +21,6 @@ use schedule::run;
 use terms::Refusal;
 use terms::Sizes;
 use terms::Tally;
-use terms::needed_margin;
 
 // Room for every text: a number and the byte behind it take at most 11, so the first line takes at most 73, each of 4,096 entries 33, and
 // the last line 52.
@@ -46,7 +45,7 @@ fn put_margin_word(text: &mut [u8], at: usize, sizes: Sizes) -> usize
     ensures { λ r. ⌜ (r ≡ at + length (line (marginWord sizes ∷ []))) × (r ≤ at + 7) ⌝ }
     ensures { λ _. ⌜ now (text .exit) ≡ overwritten at (line (marginWord sizes ∷ [])) (now (text .entry)) ⌝ }
 {
-    if needed_margin(sizes.buffer, sizes.spacing) <= sizes.margin_in_use() {
+    if sizes.enough_margin() {
         return put_bytes(text, at, b"enough\n");
     }
     put_bytes(text, at, b"short\n")

@@ -3,12 +3,16 @@ use mathlib.Core.Path.{_≡_, refl}
 use mathlib.Core.Bool.{true}
 use Rattle.terms.specs.Lists.{all}
 use Rattle.machine.specs.InRange.{inRange}
-use Rattle.machine.specs.Rehearsals.{everyNumberShown, holds, rehearsals}
+use Rattle.machine.specs.Rehearsals.{HandedBack, everyNumberShown, holds, rehearsals}
 
 pub rehearsals-hold : all holds rehearsals ≡ true
 unfolding inRange
 rehearsals-hold = refl
 
--- and it shows every number that an outcome can have
+pub handed-back : HandedBack
+unfolding inRange
+handed-back = (refl, refl)
+
+-- the table shows every number that an outcome can have
 pub every-number-shown : everyNumberShown ≡ true
 every-number-shown = refl

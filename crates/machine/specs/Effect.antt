@@ -8,21 +8,21 @@ use Rattle.terms.specs.Outcome.{isAnswer, numberOf}
 use Rattle.terms.specs.Sizes.{marginInUse}
 use Rattle.claim.specs.Calls.{Effect, none, decided, onlyWhere}
 use Rattle.machine.specs.Types.{Entry, Drain, ClientStore, BeginPut, BeginTake, WorkerStep, BeginSteal, ThiefStep, Machine, Outcome, Full, ThiefCall, StealLock, StealLoadHead, StealRaiseHead, StealLoadTail, StealLoadSlot, StealUnlockTask, StealRestoreHead, StealUnlockAbort, WorkerCall, PutLoadHead, PutStoreSlot, PutStoreTail, TakeStoreTail, TakeLoadHead, TakeLoadSlot, TakeLock, TakeReloadHead, TakeRestoreTail, TakeUnlockEmpty, TakeUnlockTask, TakeLoadLastSlot}
-use Rattle.machine.specs.Machine.{thiefCall, thiefTail, workerTail}
+use Rattle.machine.specs.Machine.{thiefCall, thiefTail}
 use Rattle.machine.specs.Thief.{keepsMargin}
 
 abbrev pub isFullOutcome : Outcome → Bool
 isFullOutcome o = eqb (numberOf o) (numberOf Full)
 
--- A put takes effect at step 3, or at step 1 where it ends there, which is FULL or END; a take at step 2 where head is not above the tail
--- that its step 1 has stored, otherwise at step 4. The outcome is that of the step.
+-- A put takes effect at step 3, or at step 1 where it ends there, which is FULL or END; a take at step 2 where t ≥ h, otherwise at step 4. The
+-- outcome is that of the step.
 abbrev pub workerEffect : Outcome → Machine → WorkerCall → Effect
 workerEffect o m WorkerCall.Idle = none
 workerEffect o m (PutLoadHead x) = onlyWhere (isAnswer o) (isFullOutcome o)
 workerEffect o m (PutStoreSlot x) = none
 workerEffect o m PutStoreTail = decided false
 workerEffect o m TakeStoreTail = none
-workerEffect o m (TakeLoadHead t) = onlyWhere (leZ (m .head .at) (workerTail m .at)) false
+workerEffect o m (TakeLoadHead t) = onlyWhere (leZ (m .head .at) (t .at)) false
 workerEffect o m (TakeLoadSlot t) = none
 workerEffect o m (TakeLock t) = none
 workerEffect o m (TakeReloadHead t) = decided false

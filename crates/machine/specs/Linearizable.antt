@@ -11,10 +11,12 @@ use Rattle.terms.specs.Sizes.{enoughMargin, sizesInRange}
 use Rattle.terms.specs.Lists.{range}
 use Rattle.claim.specs.Calls.{Party, worker, thief, begunBy, isStep, partyOf}
 use Rattle.claim.specs.Implementation.{Implementation}
+use Rattle.claim.specs.Watch.{watchFresh, watched}
 use Rattle.claim.specs.Linearizable.{Linearizable}
-use Rattle.machine.specs.Types.{Entry, Machine, Outcome, Task, Empty, Abort, Sizes, ThiefCall, StealLock, StealLoadHead, StealRaiseHead, StealLoadTail, StealLoadSlot, StealUnlockTask, StealRestoreHead, StealUnlockAbort, WorkerCall, PutLoadHead, PutStoreSlot, PutStoreTail, TakeStoreTail, TakeLoadHead, TakeLoadSlot, TakeLock, TakeReloadHead, TakeRestoreTail, TakeUnlockEmpty, TakeUnlockTask, TakeLoadLastSlot}
+use Rattle.stores.specs.Index.{next}
+use Rattle.machine.specs.Types.{Entry, Holder, Nobody, TheWorker, TheThief, Index, Machine, Outcome, Task, Empty, Abort, Sizes, ThiefCall, StealLock, StealLoadHead, StealRaiseHead, StealLoadTail, StealLoadSlot, StealUnlockTask, StealRestoreHead, StealUnlockAbort, WorkerCall, PutLoadHead, PutStoreSlot, PutStoreTail, TakeStoreTail, TakeLoadHead, TakeLoadSlot, TakeLock, TakeReloadHead, TakeRestoreTail, TakeUnlockEmpty, TakeUnlockTask, TakeLoadLastSlot}
 use Rattle.machine.specs.Machine.{fresh, thiefCall, memoryLoad, workerLoad, workerTail}
-use Rattle.machine.specs.Obey.{obey}
+use Rattle.machine.specs.Obey.{machineAfter, obey}
 use Rattle.machine.specs.Effect.{effectOf}
 
 -- ── What a running call past its effect is going to answer ──────────────────────────────────────────────────────────────────
@@ -51,18 +53,58 @@ abbrev pub owes : Machine → Party → List Outcome
 owes m worker = workerOwes m (m .worker .call)
 owes m (thief i) = thiefOwes (Abort ∷ []) m (thiefCall m i)
 
--- ── Where no call runs ──────────────────────────────────────────────────────────────────────────────────────────────────────
+-- ── The tasks that stand ────────────────────────────────────────────────────────────────────────────────────────────────────
 
 -- a difference of two indices as a number of steps up, which is none where it is negative
 abbrev pub stepsUp : ℤ → ℕ
 stepsUp (pos n) = n
 stepsUp (negsuc n) = 0
 
--- the worker's loads from the slots between head and its own tail, in that order
+-- the worker's loads from the slots of an index up to, and without, another
+abbrev pub loadedBetween : Machine → Index → Index → List ℕ
+loadedBetween m from to = map (λ k. workerLoad m (record { at = from .at +ℤ pos k })) (range (stepsUp (to .at -ℤ from .at)))
+
+-- where no call runs: from head up to the worker's tail − 1
 abbrev pub standingInSlots : Machine → List ℕ
-standingInSlots m =
-    map (λ k. workerLoad m (record { at = m .head .at +ℤ pos k }))
-    (range (stepsUp (workerTail m .at -ℤ m .head .at)))
+standingInSlots m = loadedBetween m (m .head) (workerTail m)
+
+-- While calls run: a steal that has raised head above h, and has not got the task there, leaves it standing ..
+abbrev pub headBefore : Index → ThiefCall → Index
+headBefore head ThiefCall.Idle = head
+headBefore head StealLock = head
+headBefore head StealLoadHead = head
+headBefore head (StealRaiseHead h) = head
+headBefore head (StealLoadTail h) = h
+headBefore head (StealLoadSlot h) = head
+headBefore head (StealUnlockTask x) = head
+headBefore head (StealRestoreHead h) = h
+headBefore head StealUnlockAbort = head
+
+-- .. and so does a take that has lowered the tail to t, and has not got the task there, if there is one
+abbrev pub tailBefore : Index → WorkerCall → Index
+tailBefore tail WorkerCall.Idle = tail
+tailBefore tail (PutLoadHead x) = tail
+tailBefore tail (PutStoreSlot x) = tail
+tailBefore tail PutStoreTail = tail
+tailBefore tail TakeStoreTail = tail
+tailBefore tail (TakeLoadHead t) = next t
+tailBefore tail (TakeLoadSlot t) = tail
+tailBefore tail (TakeLock t) = next t
+tailBefore tail (TakeReloadHead t) = next t
+tailBefore tail (TakeRestoreTail t) = next t
+tailBefore tail TakeUnlockEmpty = tail
+tailBefore tail (TakeUnlockTask t) = tail
+tailBefore tail (TakeLoadLastSlot t) = tail
+
+-- of the thieves only the one that has the lock can have raised head
+abbrev pub callInside : Machine → Holder → ThiefCall
+callInside m Nobody = ThiefCall.Idle
+callInside m TheWorker = ThiefCall.Idle
+callInside m (TheThief i) = thiefCall m i
+
+-- the numbers of the tasks that stand, at any moment
+abbrev pub standingNow : Machine → List ℕ
+standingNow m = loadedBetween m (headBefore (m .head) (callInside m (m .lock .holder))) (tailBefore (workerTail m) (m .worker .call))
 
 -- ── The claim ───────────────────────────────────────────────────────────────────────────────────────────────────────────────
 
@@ -91,3 +133,11 @@ Demand3 =
     → enoughMargin s ≡ true
     → length es ≤ 4096
     → Linearizable ffThe s es
+
+-- At every moment the tasks that stand are, oldest first, those of `standingNow`; where no call runs, that is 01's list, a field of the claim. Proved beside demand 3.
+abbrev pub StandsNow : Type 0
+StandsNow =
+    (s : Sizes) (es : List Entry)
+    → sizesInRange s ≡ true
+    → enoughMargin s ≡ true
+    → map (λ t. t .number) (watched ffThe (watchFresh ffThe s) es .queue .tasks) ≡ standingNow (machineAfter (fresh s) es)

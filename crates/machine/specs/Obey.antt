@@ -1,8 +1,10 @@
 -- An entry obeyed, and a list of them. Renders, of "Parts", what an operation does first, of "The numbers" the order in which one entry is
 -- refused, and of "Demand 3's plain queue" how a list is run.
-use mathlib.Core.Bool.{Bool, true, cond, _&&_}
+use mathlib.Core.Path.{_≡_}
+use mathlib.Core.Bool.{Bool, true, false, cond, _&&_}
 use mathlib.Core.List.{List, [], _∷_}
 use lib.Dec.{ltb}
+use Rattle.terms.specs.Outcome.{isRefusal}
 use Rattle.machine.specs.Types.{Done, Entry, Drain, ClientStore, BeginPut, BeginTake, WorkerStep, BeginSteal, ThiefStep, Machine, Outcome, Wait, Sizes}
 use Rattle.machine.specs.Machine.{done, thiefCall}
 use Rattle.machine.specs.InRange.{inRange}
@@ -32,6 +34,15 @@ thiefIsThere s (ThiefStep i) = ltb i (s .thieves)
 -- 7 comes first, where the machine is not in range or the entry's thief is not there; only otherwise is the entry obeyed
 abbrev pub obey : Machine → Entry → Done
 obey m e = cond (inRange m && thiefIsThere (m .sizes) e) (obeyInRange m e) (done Wait m)
+
+-- ── What is refused changes nothing ─────────────────────────────────────────────────────────────────────────────────────────
+
+-- 5, 6 and 7 leave the machine as it is; and 7 comes first. Proved in `proofs/Laws/Obey.antt`, of every machine.
+abbrev pub RefusalKeeps : Type 0
+RefusalKeeps = (m : Machine) (e : Entry) → isRefusal (obey m e .outcome) ≡ true → obey m e .machine ≡ m
+
+abbrev pub OutOfRangeWaits : Type 0
+OutOfRangeWaits = (m : Machine) (e : Entry) → (inRange m && thiefIsThere (m .sizes) e) ≡ false → obey m e ≡ done Wait m
 
 -- ── A list of entries, each on the machine left by the one before it ────────────────────────────────────────────────────
 

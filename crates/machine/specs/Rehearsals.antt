@@ -2,29 +2,33 @@
 -- the lines of "Broken thread" that a run can show, for each limit of the plain queue, for each refusal in its order, and for machines that no
 -- run of a schedule reaches.
 -- `proofs/Rehearsals.antt` proves one fact: every row holds.
+use mathlib.Core.Path.{_≡_}
 use mathlib.Core.Bool.{Bool, true, not, _&&_}
-use mathlib.Core.List.{List, [], _∷_, _++_}
+use mathlib.Core.List.{List, [], _∷_, _++_, map}
 use Prim.Native.Nat.{ℕ, _-_}
 use lib.Dec.{eqb, ltb}
 use lib.IntN.{ℤ, pos, negsuc}
 use lib.ListN.{getD, length, replicate}
-use Rattle.terms.specs.Sizes.{neededMargin}
+use Rattle.terms.specs.Sizes.{neededMargin, sized}
 use Rattle.terms.specs.Outcome.{numberOf, valueOf}
-use Rattle.terms.specs.Lists.{all, concatMap, occurrences, rangeFrom}
+use Rattle.terms.specs.Lists.{all, concatMap, equal, occurrences, rangeFrom}
 use Rattle.stores.specs.Index.{eqZ}
-use Rattle.stores.specs.StoreBuffer.{clientStore, emptyBuffer, slotStore}
+use Rattle.stores.specs.StoreBuffer.{clientStore, emptyBuffer, slotStore, tailStore}
+use Rattle.claim.specs.PlainQueue.{emptyQueue}
+use Rattle.claim.specs.Calls.{Party, worker, thief, answersTo, noCall}
 use Rattle.claim.specs.Watch.{Watch, watchAfter, watchFresh}
-use Rattle.machine.specs.Types.{Entry, Drain, ClientStore, BeginPut, BeginTake, WorkerStep, BeginSteal, ThiefStep, Machine, Outcome, Moved, Place, Early, Wait, Stored, Task, Empty, Abort, Full, End, Sizes, PutStoreSlot, PutStoreTail, StealLoadTail, TakeLoadHead, TakeLoadSlot}
-use Rattle.machine.specs.Machine.{fresh}
+use Rattle.machine.specs.Types.{Entry, Drain, ClientStore, BeginPut, BeginTake, WorkerStep, BeginSteal, ThiefStep, Index, Machine, Outcome, Moved, Place, Early, Wait, Stored, Task, Empty, Abort, Full, End, Sizes, PutLoadHead, PutStoreSlot, PutStoreTail, StealRaiseHead, StealLoadTail, StealLoadSlot, StealRestoreHead, TakeStoreTail, TakeLoadHead, TakeLoadSlot, TakeLock, TakeReloadHead, TakeRestoreTail, TakeUnlockTask, TakeLoadLastSlot}
+use Rattle.machine.specs.Machine.{done, fresh}
 use Rattle.machine.specs.Update.{pushed, withBuffer, withHead, withMemory, withSpacing, withThief, withWorker}
 use Rattle.machine.specs.InRange.{inRange}
 use Rattle.machine.specs.Obey.{obey}
-use Rattle.machine.specs.Linearizable.{ffThe}
+use Rattle.machine.specs.Linearizable.{ffThe, owes, standingInSlots, standingNow}
 
 -- ── Rows ────────────────────────────────────────────────────────────────────────────────────────────────────────────────────
 
 -- A line of a story: an entry with its outcome, or a look at memory's head, at memory's tail, at what one of memory's slots holds, at
--- the spacing count or at how many tasks stand.
+-- the spacing count, at how many tasks stand, at the numbers of those in the plain queue and in the slots, or at what a party's call owes and the plain
+-- queue has answered to it.
 pub data Line : Type 0 where
   does : Entry → Outcome → Line
   headIs : ℤ → Line
@@ -32,19 +36,30 @@ pub data Line : Type 0 where
   slotIs : ℕ → ℕ → Line
   countIs : ℕ → Line
   tasksStand : ℕ → Line
+  standing : List ℕ → Line
+  owed : Party → Outcome → Line
 
 pub data Row : Type 0 where
   -- the needed margin of a buffer size and a spacing
   margin : (buffer spacing needed : ℕ) → Row
   -- a story that starts at the fresh machine
   story : Sizes → List Line → Row
+  -- a story that starts at a machine in range, which may be one that no schedule reaches; the plain queue beside it tells nothing
+  handed : Machine → List Line → Row
   -- a machine in range that the entry, with this outcome, leads out of range, so that every next operation answers 7
   brink : Machine → Entry → Outcome → Row
-  -- a machine out of range: every operation answers 7
+  -- a machine out of range: every operation answers 7 (and hands it back as it was: `HandedBack`, below)
   beyond : Machine → Row
+
+-- with one thief
+abbrev pub absentThieves : List Entry
+absentThieves = BeginSteal 1 ∷ ThiefStep 1 ∷ BeginSteal 8 ∷ ThiefStep 8 ∷ BeginSteal 4294967295 ∷ ThiefStep 4294967295 ∷ []
 
 abbrev pub sameOutcome : Outcome → Outcome → Bool
 sameOutcome o p = eqb (numberOf o) (numberOf p) && eqb (valueOf o) (valueOf p)
+
+abbrev pub sameOutcomes : List Outcome → List Outcome → Bool
+sameOutcomes l m = equal (map numberOf l) (map numberOf m) && equal (map valueOf l) (map valueOf m)
 
 abbrev pub oneOfEach : List Entry
 oneOfEach = Drain ∷ ClientStore ∷ BeginPut 1 ∷ BeginTake ∷ WorkerStep ∷ BeginSteal 0 ∷ ThiefStep 0 ∷ []
@@ -61,10 +76,14 @@ comesTrue w (tailIs z ∷ l) = eqZ (w .machine .tail .at) z && comesTrue w l
 comesTrue w (slotIs k x ∷ l) = eqb (getD (w .machine .slots) k 0) x && comesTrue w l
 comesTrue w (countIs n ∷ l) = eqb (w .machine .spacing .count) n && comesTrue w l
 comesTrue w (tasksStand n ∷ l) = eqb (length (w .queue .tasks)) n && comesTrue w l
+comesTrue w (standing xs ∷ l) =
+    equal (map (λ t. t .number) (w .queue .tasks)) xs && equal (standingInSlots (w .machine)) xs && equal (standingNow (w .machine)) xs && comesTrue w l
+comesTrue w (owed p o ∷ l) = sameOutcomes (owes (w .machine) p) (o ∷ []) && sameOutcomes (answersTo (w .calls p)) (o ∷ []) && comesTrue w l
 
 abbrev pub holds : Row → Bool
 holds (margin b s n) = eqb (neededMargin b s) n
 holds (story s l) = comesTrue (watchFresh ffThe s) l
+holds (handed m l) = inRange m && comesTrue (record { machine = m; queue = emptyQueue 0; calls = λ p. noCall }) l
 holds (brink m e o) =
     inRange m && sameOutcome (obey m e .outcome) o && allWait (obey m e .machine)
 holds (beyond m) = allWait m
@@ -77,6 +96,8 @@ entryIn (tailIs z) = []
 entryIn (slotIs k x) = []
 entryIn (countIs n) = []
 entryIn (tasksStand n) = []
+entryIn (standing xs) = []
+entryIn (owed p o) = []
 
 abbrev pub entriesIn : List Line → List Entry
 entriesIn l = concatMap entryIn l
@@ -89,12 +110,10 @@ numberIn (tailIs z) = []
 numberIn (slotIs k x) = []
 numberIn (countIs n) = []
 numberIn (tasksStand n) = []
+numberIn (standing xs) = []
+numberIn (owed p o) = []
 
 -- ── Words for stories ───────────────────────────────────────────────────────────────────────────────────────────────────────
-
--- slots, buffer, spacing, margin, thieves, start
-abbrev pub sizes : ℕ → ℕ → ℕ → ℕ → ℕ → ℕ → Sizes
-sizes n b x d t i = record { slots = n; buffer = b; spacing = x; margin = d; thieves = t; start = i }
 
 abbrev pub drains : ℕ → List Line
 drains n = replicate n (does Drain Moved)
@@ -145,14 +164,14 @@ twoTakesThenSteal o = puts 11 ++ drains 2 ++ puts 12 ++ drains 2 ++ takes 12 ++ 
 
 -- M2: the margin is one short, and 11 is given twice
 abbrev pub m2Sizes : Sizes
-m2Sizes = sizes 4 2 0 1 1 0
+m2Sizes = sized 4 2 0 1 1 0
 
 abbrev pub m2 : List Line
 m2 = twoTakesThenSteal (Task 11)
 
 -- M3: the needed margin
 abbrev pub m3Sizes : Sizes
-m3Sizes = sizes 4 2 0 2 1 0
+m3Sizes = sized 4 2 0 2 1 0
 
 abbrev pub m3 : List Line
 m3 = twoTakesThenSteal Abort ++ headIs (pos 0) ∷ []
@@ -198,6 +217,13 @@ m9 =
     ++ headIs (pos 1) ∷ does BeginTake Moved ∷ workerMoves 2 ++ drains 1
     ++ workerGets Wait ++ thiefMoves 2 ++ thiefGets Abort
     ++ workerMoves 3 ++ workerGets (Task 7) ++ steals Abort
+
+-- .. with entries out of place while the lock is freed and the task loaded
+abbrev pub m9Place : List Line
+m9Place =
+    puts 7 ++ drains 2 ++ does (BeginSteal 0) Moved ∷ thiefMoves 3 ++ does BeginTake Moved ∷ workerMoves 2 ++ drains 1 ++ thiefMoves 2 ++ thiefGets Abort
+    ++ workerMoves 2 ++ does ClientStore Place ∷ does BeginTake Place ∷ owed worker (Task 7) ∷ workerMoves 1
+    ++ does ClientStore Place ∷ does (BeginPut 9) Place ∷ owed worker (Task 7) ∷ workerGets (Task 7) ++ countIs 0 ∷ does BeginTake Early ∷ []
 
 -- the example under "The program's lines"
 abbrev pub exampleLines : List Line
@@ -301,6 +327,17 @@ outOfPlace =
 abbrev pub placeWithinPut : List Line
 placeWithinPut = does (BeginPut 1) Moved ∷ workerMoves 1 ++ does (BeginPut 2) Place ∷ workerMoves 1 ++ does (BeginPut 2) Place ∷ workerGets Stored
 
+-- .. nor does any call of the worker's begin, or a client store come, at any step of its calls
+abbrev pub allPlace : List Line
+allPlace = does (BeginPut 9) Place ∷ does BeginTake Place ∷ does ClientStore Place ∷ []
+
+abbrev pub placeWithinWorkersCalls : List Line
+placeWithinWorkersCalls =
+    does (BeginPut 1) Moved ∷ allPlace ++ workerMoves 1 ++ allPlace ++ workerMoves 1 ++ allPlace ++ workerGets Stored
+    ++ drains 2 ++ does BeginTake Moved ∷ allPlace ++ workerMoves 1 ++ allPlace ++ workerMoves 1 ++ allPlace ++ workerGets (Task 1)
+    ++ drains 1 ++ does BeginTake Moved ∷ workerMoves 1 ++ allPlace ++ workerMoves 1 ++ drains 1
+    ++ allPlace ++ workerMoves 1 ++ allPlace ++ workerMoves 1 ++ allPlace ++ workerMoves 1 ++ drains 1 ++ allPlace ++ workerGets Empty
+
 abbrev pub placeWithinSteal : Outcome → List Line
 placeWithinSteal o = does (BeginSteal 0) Moved ∷ concatMap (λ k. does (BeginSteal 0) Place ∷ thiefMoves 1) (rangeFrom 1 5) ++ does (BeginSteal 0) Place ∷ thiefGets o
 
@@ -326,76 +363,202 @@ lockOfTheWorker = does BeginTake Moved ∷ workerMoves 2 ++ drains 1 ++ workerMo
 abbrev pub fromAnotherStart : List Line
 fromAnotherStart = puts 1 ++ puts 2 ++ takes 2 ++ takes 1
 
+-- of two pending stores to one slot the worker loads the newest
+abbrev pub newestOfASlot : List Line
+newestOfASlot = puts 1 ++ takes 1 ++ puts 2 ++ takes 2
+
+-- the tail's greatest value at FULL's distance: END comes first
+abbrev pub endBeforeFull : List Line
+endBeforeFull = puts 1 ++ tasksStand 1 ∷ putEnds 2 End
+
+-- a whole take that finds no task, drained where needed
+abbrev pub takesNothing : List Line
+takesNothing = does BeginTake Moved ∷ workerMoves 2 ++ drains 1 ++ workerMoves 3 ++ drains 1 ++ workerGets Empty
+
+-- the spacing rule counts client stores alone: no put, STORED or FULL, and an EMPTY take is a take
+abbrev pub putsCountNothing : List Line
+putsCountNothing = puts 1 ++ takes 1 ++ puts 2 ++ countIs 0 ∷ does BeginTake Early ∷ []
+
+abbrev pub fullCountsNothing : List Line
+fullCountsNothing = puts 1 ++ takes 1 ++ puts 2 ++ putEnds 3 Full ++ countIs 0 ∷ does BeginTake Early ∷ []
+
+abbrev pub emptyWaivesNothing : List Line
+emptyWaivesNothing = takesNothing ++ countIs 0 ∷ does BeginTake Early ∷ clientStores 1 ++ does BeginTake Moved ∷ []
+
+abbrev pub endCountsNothing : List Line
+endCountsNothing = puts 1 ++ takes 1 ++ puts 2 ++ putEnds 3 End ++ countIs 0 ∷ does BeginTake Early ∷ []
+
+-- .. and nothing but the next take begins the count anew: no put, no drain, no steal
+abbrev pub countStays : List Line
+countStays =
+    filled 3 ++ takes 3 ++ clientStores 1 ++ countIs 1 ∷ steals (Task 1) ++ steals Abort ++ countIs 1 ∷ drains 2
+    ++ countIs 1 ∷ puts 4 ++ countIs 1 ∷ does BeginTake Moved ∷ countIs 0 ∷ []
+
+abbrev pub fullLeavesTheCount : List Line
+fullLeavesTheCount = puts 1 ++ takes 1 ++ clientStores 1 ++ puts 2 ++ putEnds 3 Full ++ countIs 1 ∷ does BeginTake Moved ∷ []
+
+-- two tasks stand, before and after their stores have drained
+abbrev pub twoStand : List Line
+twoStand = puts 5 ++ puts 6 ++ standing (5 ∷ 6 ∷ []) ∷ drains 4 ++ standing (5 ∷ 6 ∷ []) ∷ []
+
+-- calls past their effect: a take and a steal that have yet to load their task, a steal that has, and a steal and a take that have found none
+abbrev pub callsPastEffect : List Line
+callsPastEffect =
+    filled 3 ++ does BeginTake Moved ∷ workerMoves 2
+    ++ owed worker (Task 3) ∷ does (BeginSteal 0) Moved ∷ thiefMoves 4
+    ++ owed (thief 0) (Task 1) ∷ thiefMoves 1 ++ owed (thief 0) (Task 1) ∷ workerGets (Task 3) ++ thiefGets (Task 1)
+    ++ standing (2 ∷ []) ∷ drains 1 ++ does (BeginSteal 0) Moved ∷ thiefMoves 4
+    ++ owed (thief 0) Abort ∷ thiefMoves 1 ++ owed (thief 0) Abort ∷ []
+
+abbrev pub emptyPastEffect : List Line
+emptyPastEffect = does BeginTake Moved ∷ workerMoves 2 ++ drains 1 ++ workerMoves 2 ++ owed worker Empty ∷ workerMoves 1 ++ owed worker Empty ∷ []
+
 abbrev pub stories : List Row
 stories =
     story m2Sizes m2
     ∷ story m3Sizes m3
-    ∷ story (sizes 2 2 0 2 1 0) m4
-    ∷ story (sizes 2 2 0 2 1 0) (m5 3)
-    ∷ story (sizes 2 2 0 2 1 0) (m5 4)
-    ∷ story (sizes 4 2 0 2 1 0) m6
-    ∷ story (sizes 4 2 0 2 1 2147483647) m7
-    ∷ story (sizes 4 2 0 2 1 2147483646) m7Before
-    ∷ story (sizes 4 4 1 2 1 0) m8
-    ∷ story (sizes 4 2 0 2 1 0) m9
-    ∷ story (sizes 4 1 0 1 1 0) exampleLines
-    ∷ story (sizes 4 2 0 2 1 0) slotBeforeTail
-    ∷ story (sizes 32 33 1 16 1 0) (seventeenTakesThenSteal (Task 1))
-    ∷ story (sizes 32 33 1 17 1 0) (seventeenTakesThenSteal Abort)
-    ∷ story (sizes 2 2 1 1 1 0) slotAboutToBeLoaded
-    ∷ story (sizes 4 8 7 1 1 0) thiefSeesMemory
-    ∷ story (sizes 4 4 0 1 1 0) thiefLoadsMemory
-    ∷ story (sizes 4 8 0 8 1 0) workerSeesPending
-    ∷ story (sizes 4 2 1 1 1 0) tailAtMargin
-    ∷ story (sizes 4 2 0 2 1 0) headAheadOfTail
-    ∷ story (sizes 4 2 0 2 1 0) lastTaskStanding
-    ∷ story (sizes 4 2 1 1 1 0) takenFromSlot0
-    ∷ story (sizes 4 2 1 1 1 0) stolenFromSlot0
-    ∷ story (sizes 4 2 0 0 1 0) m3
-    ∷ story (sizes 4 2 1 0 1 0) beyondBuffer
-    ∷ story (sizes 4 8 2 3 1 0) twoStoresApart
-    ∷ story (sizes 4 1 0 1 1 0) noRoom
-    ∷ story (sizes 4 1 0 1 1 0) placeBeforeWait
-    ∷ story (sizes 4 1 1 1 1 0) placeBeforeEarly
-    ∷ story (sizes 4 2 0 2 2 0) outOfPlace
-    ∷ story (sizes 4 2 0 2 1 0) placeWithinPut
-    ∷ story (sizes 4 2 1 1 1 0) (filled 2 ++ placeWithinSteal (Task 1))
-    ∷ story (sizes 4 2 1 1 1 0) (filled 1 ++ placeWithinSteal Abort)
-    ∷ story (sizes 4 4 1 2 1 0) placeKeepsCount
-    ∷ story (sizes 4 2 1 1 1 0) waitCountsNothing
-    ∷ story (sizes 2 3 0 3 2 0) lockOfAThief
-    ∷ story (sizes 4 2 0 2 1 0) lockOfTheWorker
-    ∷ story (sizes 4 8 0 7 1 3) fromAnotherStart
+    ∷ story (sized 2 2 0 2 1 0) m4
+    ∷ story (sized 2 2 0 2 1 0) (m5 3)
+    ∷ story (sized 2 2 0 2 1 0) (m5 4)
+    ∷ story (sized 4 2 0 2 1 0) m6
+    ∷ story (sized 4 2 0 2 1 2147483647) m7
+    ∷ story (sized 4 2 0 2 1 2147483646) m7Before
+    ∷ story (sized 4 4 1 2 1 0) m8
+    ∷ story (sized 4 2 0 2 1 0) m9
+    ∷ story (sized 4 1 0 1 1 0) exampleLines
+    ∷ story (sized 4 2 0 2 1 0) slotBeforeTail
+    ∷ story (sized 32 33 1 16 1 0) (seventeenTakesThenSteal (Task 1))
+    ∷ story (sized 32 33 1 17 1 0) (seventeenTakesThenSteal Abort)
+    ∷ story (sized 2 2 1 1 1 0) slotAboutToBeLoaded
+    ∷ story (sized 4 8 7 1 1 0) thiefSeesMemory
+    ∷ story (sized 4 4 0 1 1 0) thiefLoadsMemory
+    ∷ story (sized 4 8 0 8 1 0) workerSeesPending
+    ∷ story (sized 4 2 1 1 1 0) tailAtMargin
+    ∷ story (sized 4 2 0 2 1 0) headAheadOfTail
+    ∷ story (sized 4 2 0 2 1 0) lastTaskStanding
+    ∷ story (sized 4 2 1 1 1 0) takenFromSlot0
+    ∷ story (sized 4 2 1 1 1 0) stolenFromSlot0
+    ∷ story (sized 4 2 0 0 1 0) m3
+    ∷ story (sized 4 2 1 0 1 0) beyondBuffer
+    ∷ story (sized 4 8 2 3 1 0) twoStoresApart
+    ∷ story (sized 4 1 0 1 1 0) noRoom
+    ∷ story (sized 4 1 0 1 1 0) placeBeforeWait
+    ∷ story (sized 4 1 1 1 1 0) placeBeforeEarly
+    ∷ story (sized 4 2 0 2 2 0) outOfPlace
+    ∷ story (sized 4 2 0 2 1 0) placeWithinPut
+    ∷ story (sized 4 2 1 1 1 0) (filled 2 ++ placeWithinSteal (Task 1))
+    ∷ story (sized 4 2 1 1 1 0) (filled 1 ++ placeWithinSteal Abort)
+    ∷ story (sized 4 4 1 2 1 0) placeKeepsCount
+    ∷ story (sized 4 2 1 1 1 0) waitCountsNothing
+    ∷ story (sized 2 3 0 3 2 0) lockOfAThief
+    ∷ story (sized 4 2 0 2 1 0) lockOfTheWorker
+    ∷ story (sized 4 8 0 7 1 3) fromAnotherStart
+    ∷ story (sized 4 8 0 8 1 0) newestOfASlot
+    ∷ story (sized 2 2 0 2 1 2147483646) endBeforeFull
+    ∷ story (sized 4 8 1 4 1 0) putsCountNothing
+    ∷ story (sized 2 8 1 4 1 0) fullCountsNothing
+    ∷ story (sized 4 2 1 1 1 0) emptyWaivesNothing
+    ∷ story (sized 4 8 1 4 1 2147483646) endCountsNothing
+    ∷ story (sized 4 4 1 2 1 0) countStays
+    ∷ story (sized 2 8 1 4 1 0) fullLeavesTheCount
+    ∷ story (sized 4 2 1 1 1 0) m9Place
+    ∷ story (sized 4 2 0 2 1 0) placeWithinWorkersCalls
+    ∷ story (sized 4 4 0 4 1 0) twoStand
+    ∷ story (sized 4 2 1 1 1 0) callsPastEffect
+    ∷ story (sized 4 2 0 2 1 0) emptyPastEffect
     ∷ []
 
 -- a machine with this tail and no store pending
 abbrev pub withTail : ℤ → Machine → Machine
 withTail z m = withMemory (m .slots) (record { at = z }) emptyBuffer m
 
+abbrev pub minusOne : Index
+minusOne = record { at = negsuc 0 }
+
+abbrev pub zeroth : Index
+zeroth = record { at = pos 0 }
+
+-- two below 0, and the greatest index in range
+abbrev pub minusTwo : Index
+minusTwo = record { at = negsuc 1 }
+
+abbrev pub greatest : Index
+greatest = record { at = pos 2147483648 }
+
+-- Steps on machines in range that no schedule reaches. An unlock waits for pending stores, a restoring store for a place in the list and for nothing else; steal 3 goes by its own h; END is the tail's greatest
+-- value and no other; the last load of a take sees pending stores; cells past the pending stores are not looked at.
+abbrev pub handedRows : List Row
+handedRows =
+    handed (pushed clientStore (withWorker (TakeUnlockTask zeroth) (fresh m3Sizes))) (workerGets Wait ++ drains 1 ++ workerMoves 1 ++ workerGets (Task 0))
+    ∷ handed (pushed clientStore (pushed clientStore (withWorker (TakeRestoreTail zeroth) (fresh m3Sizes)))) (workerGets Wait ++ drains 1 ++ workerMoves 1)
+    ∷ handed (withThief 0 (StealRaiseHead (record { at = pos 3 })) (fresh m3Sizes)) (thiefMoves 1 ++ headIs (pos 4) ∷ [])
+    ∷ handed (withHead greatest (withTail (pos 2147483648) (withWorker (PutLoadHead 1) (fresh m3Sizes)))) (workerMoves 1)
+    ∷ handed (pushed (slotStore zeroth 9) (withWorker (TakeLoadLastSlot zeroth) (fresh m3Sizes))) (workerGets (Task 9))
+    ∷ handed (withBuffer (record { stores = replicate 64 (slotStore minusOne 1); count = 0 }) (fresh m3Sizes)) (does BeginTake Moved ∷ [])
+    ∷ []
+
+-- The client store that is counted past 4,096; and each step that leads an index out of range: put 2 and 3, take 1, take 2 and 4 at t = head = −1, take 5, steal 3,
+-- and steal 4 at h = −1. No run of at most 4,096 entries gets there (`run-in-range`).
 abbrev pub brinks : List Row
 brinks =
     brink (withSpacing (record { count = 4096; begun = true }) (fresh m3Sizes)) ClientStore Moved
     ∷ brink (withTail (pos 2147483648) (withWorker PutStoreTail (fresh m3Sizes))) WorkerStep Stored
     ∷ brink (withTail (negsuc 0) (withWorker (PutStoreSlot 5) (fresh m3Sizes))) WorkerStep Moved
+    ∷ brink (withTail (negsuc 0) (withWorker TakeStoreTail (fresh m3Sizes))) WorkerStep Moved
+    ∷ brink (withHead minusOne (withWorker (TakeLoadHead minusOne) (fresh m3Sizes))) WorkerStep Moved
+    ∷ brink (withHead minusOne (withWorker (TakeReloadHead minusOne) (fresh m3Sizes))) WorkerStep Moved
+    ∷ brink (withWorker (TakeRestoreTail greatest) (fresh m3Sizes)) WorkerStep Moved
+    ∷ brink (withThief 0 (StealRaiseHead greatest) (fresh m3Sizes)) (ThiefStep 0) Moved
+    ∷ brink (withTail (pos 2) (withThief 0 (StealLoadTail minusOne) (fresh m3Sizes))) (ThiefStep 0) Moved
     ∷ []
 
--- one part out of range: a size, how many stores are pending, the spacing count, head, the tail, a pending store, the index of a call
-abbrev pub beyonds : List Row
-beyonds =
-    beyond (fresh (sizes 1 2 0 2 1 0))
-    ∷ beyond (fresh (sizes 4 2 0 65 1 0))
-    ∷ beyond (withBuffer (record { stores = replicate 64 clientStore; count = 3 }) (fresh m3Sizes))
-    ∷ beyond (withSpacing (record { count = 4097; begun = true }) (fresh m3Sizes))
-    ∷ beyond (withHead (record { at = negsuc 1 }) (fresh m3Sizes))
-    ∷ beyond (withTail (pos 2147483649) (fresh m3Sizes))
-    ∷ beyond (pushed (slotStore (record { at = negsuc 0 }) 1) (fresh m3Sizes))
-    ∷ beyond (withWorker (TakeLoadHead (record { at = negsuc 1 })) (fresh m3Sizes))
-    ∷ beyond (withWorker (TakeLoadSlot (record { at = negsuc 0 })) (fresh m3Sizes))
-    ∷ beyond (withThief 7 (StealLoadTail (record { at = pos 2147483649 })) (fresh m3Sizes))
+-- one part out of range: each size, how many stores are pending, the spacing count, head, the tail, a pending store, the index of a call
+abbrev pub outOfRange : List Machine
+outOfRange =
+    fresh (sized 1 2 0 2 1 0)
+    ∷ fresh (sized 4 65 0 2 1 0)
+    ∷ fresh (sized 4 2 64 2 1 0)
+    ∷ fresh (sized 4 2 0 65 1 0)
+    ∷ fresh (sized 4 2 0 2 9 0)
+    ∷ fresh (sized 4 2 0 2 1 2147483648)
+    ∷ withBuffer (record { stores = replicate 64 clientStore; count = 3 }) (fresh m3Sizes)
+    ∷ withSpacing (record { count = 4097; begun = true }) (fresh m3Sizes)
+    ∷ withHead minusTwo (fresh m3Sizes)
+    ∷ withTail (pos 2147483649) (fresh m3Sizes)
+    ∷ pushed (tailStore minusTwo) (fresh m3Sizes)
+    ∷ pushed (slotStore minusOne 1) (fresh m3Sizes)
+    ∷ withWorker (TakeLoadHead minusTwo) (fresh m3Sizes)
+    ∷ withWorker (TakeLoadSlot minusOne) (fresh m3Sizes)
+    ∷ withWorker (TakeLock minusTwo) (fresh m3Sizes)
+    ∷ withWorker (TakeReloadHead minusTwo) (fresh m3Sizes)
+    ∷ withWorker (TakeRestoreTail minusTwo) (fresh m3Sizes)
+    ∷ withWorker (TakeUnlockTask minusOne) (fresh m3Sizes)
+    ∷ withWorker (TakeLoadLastSlot minusOne) (fresh m3Sizes)
+    ∷ withThief 0 (StealRaiseHead minusTwo) (fresh m3Sizes)
+    ∷ withThief 7 (StealLoadTail (record { at = pos 2147483649 })) (fresh m3Sizes)
+    ∷ withThief 0 (StealLoadSlot minusOne) (fresh m3Sizes)
+    ∷ withThief 0 (StealRestoreHead minusTwo) (fresh m3Sizes)
+    -- where a take would also be early
+    ∷ withHead minusTwo (withSpacing (record { count = 0; begun = true }) (fresh (sized 4 2 1 2 1 0)))
     ∷ []
+
+-- the machines to which a step has led
+abbrev pub afterBrink : Row → List Machine
+afterBrink (margin b s n) = []
+afterBrink (story s l) = []
+afterBrink (handed m l) = []
+afterBrink (brink m e o) = obey m e .machine ∷ []
+afterBrink (beyond m) = []
+
+-- each of these machines is handed back as it was, whichever of the seven the entry is; and so is one that is asked for a thief that is not there
+abbrev pub HandedBack : Type 0
+HandedBack =
+    (map (λ m. map (obey m) oneOfEach) (outOfRange ++ concatMap afterBrink brinks)
+    ≡ map (λ m. map (λ e. done Wait m) oneOfEach) (outOfRange ++ concatMap afterBrink brinks))
+    × (map (obey (fresh m3Sizes)) absentThieves ≡ map (λ e. done Wait (fresh m3Sizes)) absentThieves)
 
 abbrev pub rehearsals : List Row
-rehearsals = m1 ++ stories ++ brinks ++ beyonds
+rehearsals = m1 ++ stories ++ handedRows ++ brinks ++ map beyond outOfRange
 
 -- ── Every number ────────────────────────────────────────────────────────────────────────────────────────────────────────────
 
@@ -403,6 +566,7 @@ rehearsals = m1 ++ stories ++ brinks ++ beyonds
 abbrev pub numbersIn : Row → List ℕ
 numbersIn (margin b s n) = []
 numbersIn (story s l) = concatMap numberIn l
+numbersIn (handed m l) = concatMap numberIn l
 numbersIn (brink m e o) = numberOf o ∷ []
 numbersIn (beyond m) = []
 

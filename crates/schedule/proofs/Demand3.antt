@@ -21,6 +21,10 @@ use Rattle.machine.proofs.Linearizable.Watched.{events-outcomes}
 use Rattle.schedule.specs.Types.{Accepted, Entry, Ran, Reading, Running, Sizes, Tally}
 use Rattle.schedule.specs.declared.reader.Reading.the-variants as reading
 use Rattle.schedule.specs.Demand3.{RunLinearizes, TraceLinearizes, answerIn, answersIn, plainAnswers}
+use Rattle.terms.specs.Refusal.{Refuses}
+use Rattle.schedule.specs.Faults.{refusalInRunning, runHas}
+use Rattle.properties.proofs.ExactlyOnce.{none-lost-or-given-twice}
+use Rattle.schedule.proofs.Faults.{runner-refuses-faults}
 use Rattle.schedule.specs.Format.{allBelow, entriesIn, sizesIn}
 use Rattle.number.specs.Number.{overwritten}
 use Rattle.schedule.specs.Reader.{readFile}
@@ -85,16 +89,20 @@ run-linearizes file trace bytes t ran margin =
           ∙ ap (map (λ l. l ∷ [])) (answersIn-written os trace (file-values-fit file bytes))
           ∙ answers-plain s es claim;
       linearizable = claim;
+      once = none-lost-or-given-twice s es (ranges-sizes s n (readable .ranges)) margin (omega arith);
     }
 
 -- what `run` promises, of the answer and the buffer that it hands back
 pub run-promises : (file trace : List ℕ) → allBelow 256 file ≡ true → (answer : Running) (after : List ℕ)
     → answer ≡ runFile file (length trace) → after ≡ traceAfter file trace
-    → (answer ≡ runFile file (length trace)) × ((after ≡ traceAfter file trace) × RunLinearizes file after answer)
+    → (answer ≡ runFile file (length trace)) × ((after ≡ traceAfter file trace) × (RunLinearizes file after answer × Refuses (runHas file (length trace)) (refusalInRunning answer)))
 run-promises file trace bytes answer after told held = (
   told,
   (
     held,
-    λ t ran enough. subst (TraceLinearizes (sizesIn file) (scheduleIn file) (entriesIn file)) (sym held) (run-linearizes file trace bytes t (sym told ∙ ran) enough),
+    (
+      λ t ran enough. subst (TraceLinearizes (sizesIn file) (scheduleIn file) (entriesIn file)) (sym held) (run-linearizes file trace bytes t (sym told ∙ ran) enough),
+      subst (λ r. Refuses (runHas file (length trace)) (refusalInRunning r)) (sym told) (runner-refuses-faults file (length trace)),
+    ),
   ),
 )

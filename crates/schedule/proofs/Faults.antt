@@ -1,19 +1,21 @@
 -- What is refused has the fault that is given, and what has a fault is refused: by the reader, and where a file is run.
-use mathlib.Core.Path.{_≡_, refl, ap, sym, _∙_}
-use mathlib.Core.Bool.{Bool, true, false, cond, not, _&&_, _||_, false≢true}
+use mathlib.Core.Path.{_≡_, refl, ap, sym, _∙_, subst}
+use mathlib.Core.Bool.{Bool, true, false, and-false, cond, not, _&&_, _||_, false≢true}
 use mathlib.Core.List.{List}
 use Prim.Native.Nat.{ℕ, zero, suc, _+_, _*_, _≤_, _<_}
 use native.Mathlib.Omega.{arith}
 use lib.Dec.{eqb, leb, ltb}
 use lib.ListN.{getD, length}
 use borrow.Author.Tests.{eq-eqb, le-leb, le-ltb, lt-ltb, ltb-false, ltb-true}
-use Rattle.schedule.specs.Types.{Accepted, Failed, Kind, Passed, Ran, Reading, Refusal, Room, Short, Size, Sizes, Tally, Who}
+use Rattle.schedule.specs.Types.{Accepted, Failed, Kind, Passed, Reading, Refusal, Room, Running, Short, Size, Sizes, Who}
 use Rattle.schedule.specs.declared.reader.Reading.the-variants as reading
 use Rattle.schedule.specs.declared.runner.Running.the-variants as running
 use Rattle.schedule.specs.Check.{checkRanges}
 use Rattle.schedule.specs.Entries.{checkEntries, checkOf, entryAt}
 use Rattle.schedule.specs.Faults.{ReaderRefusesFaults, RefusedRunUntouched, RunnerRefusesFaults}
-use Rattle.schedule.specs.Faults.{faultsOf, fileHas, hasFault, operandAllowed, runHas}
+use Rattle.schedule.specs.Faults.{faultAt, faultsOf, fileHas, operandAllowed, refusalInReading, refusalInRunning, runHas}
+use Rattle.terms.specs.Refusal.{Refuses, numberOf, placeOf}
+use Rattle.terms.proofs.Laws.Tests.{decide, either}
 use Rattle.schedule.specs.Format.{entriesIn, kindsIn, operandsIn, sizesIn}
 use Rattle.schedule.specs.Reader as reader
 use Rattle.schedule.specs.Run.{outcomesIn, runningOf, traceIf}
@@ -27,6 +29,10 @@ use Rattle.schedule.proofs.Laws.Entries.{entries-passed, entry-passed, 
 use Rattle.schedule.proofs.Laws.Format.{length-kindsIn, length-operandsIn}
 
 -- ── What reader and writer share ────────────────────────────────────────────────────────────────────────────────────────────
+
+-- whether there is the fault that a refusal tells, by its number and its place
+abbrev pub hasFault : Sizes → ℕ → List ℕ → List ℕ → Bool → Bool → Refusal → Bool
+hasFault s entries kinds operands wrongLength noRoom r = faultAt s entries kinds operands wrongLength noRoom (numberOf r) (placeOf r)
 
 module _ (s : Sizes) (entries : ℕ) (kinds operands : List ℕ) (long : length kinds ≡ entries) (wrongLength noRoom : Bool) where
   -- what the check of the sizes tells is a fault of the sizes
@@ -83,6 +89,17 @@ module _ (s : Sizes) (entries : ℕ) (kinds operands : List ℕ) (long : length 
       go false p = refl
   no-fault ranges as-long each room Room = room
 
+  -- .. whatever the number and the place
+  pub no-fault-at : checkRanges s entries ≡ Passed → wrongLength ≡ false → checkEntries (s .thieves) kinds operands ≡ Passed → noRoom ≡ false
+      → (number place : ℕ) → faultAt s entries kinds operands wrongLength noRoom number place ≡ false
+  no-fault-at ranges as-long each room number place =
+      let none : (r : Refusal) → hasFault s entries kinds operands wrongLength noRoom r ≡ false = no-fault ranges as-long each room in
+      either (λ b. b ≡ false) (eqb number 1) (none (Size place))
+      (either (λ b. b ≡ false) (eqb number 2) (rw (as-long, and-false))
+      (either (λ b. b ≡ false) (eqb number 3) (none (Kind place))
+      (either (λ b. b ≡ false) (eqb number 4) (none (Who place))
+      (either (λ b. b ≡ false) (eqb number 8) (rw (room, and-false)) refl))))
+
 -- ── The reader ──────────────────────────────────────────────────────────────────────────────────────────────────────────────
 
 or-right : (a : Bool) {b : Bool} → b ≡ true → (a || b) ≡ true
@@ -97,7 +114,7 @@ abbrev wrong : List ℕ → Bool
 wrong file = ltb (length file) 28 || not (eqb (length file) (28 + 5 * entriesIn file))
 
 -- whatever a file's check failed with is a fault that it has
-check-fault : (file : List ℕ) (r : Refusal) (i : ℕ) → getD (reader.readingChecks file) i Passed ≡ Failed r → fileHas file r ≡ true
+check-fault : (file : List ℕ) (r : Refusal) (i : ℕ) → getD (reader.readingChecks file) i Passed ≡ Failed r → fileHas file (numberOf r) (placeOf r) ≡ true
 check-fault file r zero e =
     let found = failIf-failed (ltb (length file) 28) Short e in rw (found .1, found .0)
 check-fault file r (suc zero) e =
@@ -113,24 +130,26 @@ check-fault file r (suc (suc (suc zero))) e =
 check-fault file r (suc (suc (suc (suc i)))) e = absurd (not-both (sym e))
 
 pub reader-refuses-faults : ReaderRefusesFaults
-reader-refuses-faults file r = (refused, accepted)
+reader-refuses-faults file = go (reader.readFile file) refl
   where
-    refused : reader.readFile file ≡ reading.Refused r → fileHas file r ≡ true
-    refused e = let found = refused-reading file r e in check-fault file r (found .0) (found .1)
-
-    accepted : (s : Sizes) (entries : ℕ) → reader.readFile file ≡ Accepted s entries → fileHas file r ≡ false
-    accepted s entries e =
+    go : (answer : Reading) → reader.readFile file ≡ answer → Refuses (fileHas file) (refusalInReading answer)
+    go (reading.Refused r) e = let found = refused-reading file r e in check-fault file r (found .0) (found .1)
+    go (Accepted s entries) e =
         let n = entriesIn file in
         let p = accepted-readable file s entries e .1 .1 in
         let there = le-ltb (length file) 28 (omega (arith, p .long)) in
         let as-long = or-neither there (ap not (eq-eqb (length file) (28 + 5 * n) (p .long))) in
-        no-fault (sizesIn file) n (kindsIn n file) (operandsIn n file) (length-kindsIn n file) (wrong file) false
-        (p .ranges) as-long (p .each) refl r
+        no-fault-at (sizesIn file) n (kindsIn n file) (operandsIn n file) (length-kindsIn n file) (wrong file) false (p .ranges) as-long (p .each) refl
+
+-- what `read` promises, of the answer that it hands back
+pub read-promises : (file : List ℕ) (answer : Reading) → answer ≡ reader.readFile file
+    → (answer ≡ reader.readFile file) × Refuses (fileHas file) (refusalInReading answer)
+read-promises file answer told = (told, subst (λ r. Refuses (fileHas file) (refusalInReading r)) (sym told) (reader-refuses-faults file))
 
 -- ── Running ─────────────────────────────────────────────────────────────────────────────────────────────────────────────────
 
 -- a fault that a file has when it is read, it has when it is run
-still-fault : (file : List ℕ) (noRoom : Bool) (r : Refusal) → faultsOf file false r ≡ true → faultsOf file noRoom r ≡ true
+still-fault : (file : List ℕ) (noRoom : Bool) (r : Refusal) → fileHas file (numberOf r) (placeOf r) ≡ true → faultsOf file noRoom (numberOf r) (placeOf r) ≡ true
 still-fault file noRoom (Size place) e = e
 still-fault file noRoom Short e = e
 still-fault file noRoom (Kind at) e = e
@@ -138,31 +157,20 @@ still-fault file noRoom (Who at) e = e
 still-fault file noRoom Room e = absurd (false≢true e)
 
 pub runner-refuses-faults : RunnerRefusesFaults
-runner-refuses-faults file room r = (refused (reader.readFile file) refl, ran (reader.readFile file) refl)
+runner-refuses-faults file room = go (reader.readFile file) refl (reader-refuses-faults file)
   where
-    small : Bool
-    small = ltb room (traceLength (entriesIn file))
+    small : ℕ → Bool
+    small n = ltb room (traceLength n)
 
-    refused : (answer : Reading) → reader.readFile file ≡ answer → runningOf file room answer ≡ running.Refused r → runHas file room r ≡ true
-    refused (reading.Refused q) read told =
-        let same : q ≡ r = cc in still-fault file small r (reader-refuses-faults file r .0 (read ∙ ap reading.Refused same))
-    refused (Accepted s n) read told = go (ltb room (traceLength n)) refl told
+    go : (answer : Reading) → reader.readFile file ≡ answer → Refuses (fileHas file) (refusalInReading (reader.readFile file)) → Refuses (runHas file room) (refusalInRunning (runningOf file room answer))
+    go (reading.Refused r) e faults = still-fault file (small (entriesIn file)) r (subst (λ a. Refuses (fileHas file) (refusalInReading a)) e faults)
+    go (Accepted s n) e faults =
+        decide (λ (a : Running). Refuses (runHas file room) (refusalInRunning a)) (small n)
+        (λ full. ap small same ∙ full)
+        (λ fits number place. ap (λ b. faultsOf file b number place) (ap small same ∙ fits) ∙ subst (λ a. Refuses (fileHas file) (refusalInReading a)) e faults number place)
       where
-        go : (b : Bool) → ltb room (traceLength n) ≡ b → cond b (running.Refused Room) (Ran (tallyOf (outcomesIn file))) ≡ running.Refused r → runHas file room r ≡ true
-        go true test told =
-            let same : r ≡ Room = cc in
-            rw same (ap (λ k. ltb room (traceLength k)) (sym (accepted-readable file s n read .1 .0)) ∙ test)
-        go false test told = absurd (not-both-run (sym told))
-
-    ran : (answer : Reading) → reader.readFile file ≡ answer → (t : Tally) → runningOf file room answer ≡ Ran t → runHas file room r ≡ false
-    ran (reading.Refused q) read t told = absurd (not-both-run told)
-    ran (Accepted s n) read t told = go (ltb room (traceLength n)) refl told
-      where
-        go : (b : Bool) → ltb room (traceLength n) ≡ b → cond b (running.Refused Room) (Ran (tallyOf (outcomesIn file))) ≡ Ran t → runHas file room r ≡ false
-        go true test told = absurd (not-both-run told)
-        go false test told =
-            ap (λ b. faultsOf file b r) (ap (λ k. ltb room (traceLength k)) (sym (accepted-readable file s n read .1 .0)) ∙ test)
-            ∙ reader-refuses-faults file r .1 s n read
+        same : entriesIn file ≡ n
+        same = sym (accepted-readable file s n e .1 .0)
 
 pub refused-run-untouched : RefusedRunUntouched
 refused-run-untouched file trace r e = ap (traceIf (traceOf (outcomesIn file)) trace) e

@@ -2,8 +2,8 @@
 use mathlib.Core.Bool.{Bool, cond}
 use mathlib.Core.List.{List, [], _∷_, _++_}
 use Prim.Native.Nat.{ℕ}
-use Rattle.terms.specs.Sizes.{firstFault, rangesKept, within}
-use Rattle.schedule.specs.Types.{AllInRange, Check, Failed, OutOfRange, Passed, Refusal, Size, SizeCheck, Sizes}
+use Rattle.terms.specs.Sizes.{firstFault, rangesKept, refusalInSizes, within}
+use Rattle.schedule.specs.Types.{Check, Failed, Passed, Refusal, SizeCheck, Sizes}
 
 -- of several checks in their order, the first that fails decides
 abbrev pub first : List Check → Check
@@ -19,10 +19,14 @@ failIf fault r = cond fault (Failed r) Passed
 abbrev pub sizesKept : Sizes → ℕ → List Bool
 sizesKept s entries = rangesKept s ++ (within 0 4096 entries ∷ [])
 
+-- a check that fails with the refusal that there is
+abbrev pub failsWith : List Refusal → Check
+failsWith [] = Passed
+failsWith (r ∷ l) = Failed r
+
 -- a size out of its range is SIZE, with its place
 abbrev pub sizeRefusal : SizeCheck → Check
-sizeRefusal AllInRange = Passed
-sizeRefusal (OutOfRange place) = Failed (Size place)
+sizeRefusal c = failsWith (refusalInSizes c)
 
 -- the seven sizes: the lowest place decides
 abbrev pub checkRanges : Sizes → ℕ → Check

@@ -6,9 +6,11 @@ use Prim.Native.Nat.{ℕ, _+_}
 use lib.Dec.{eqb}
 use lib.ListN.{length, replicate, take}
 use Rattle.terms.specs.declared.kinds.Meaning.the-variants as meaning
-use Rattle.terms.specs.Refusal.{numberOf, placeOf}
+use Rattle.terms.specs.Refusal.{refusedBy}
 use Rattle.terms.specs.Kinds.{entryOf, kindOf, operandOf}
-use Rattle.terms.specs.Lists.{rangeFrom}
+use Rattle.terms.specs.Lists.{equal, rangeFrom}
+use Rattle.terms.specs.Numbers.{isNoEntry}
+use Rattle.terms.specs.Sizes.{sized}
 use Rattle.schedule.specs.Types.{Accepted, Allowed, Meaning, Reading, Refusal, Sizes}
 use Rattle.schedule.specs.Types.{BeginPut, BeginSteal, BeginTake, ClientStore, Drain, Entry, ThiefStep, WorkerStep}
 use Rattle.schedule.specs.declared.reader.Reading.the-variants as reading
@@ -29,15 +31,6 @@ pub data Row : Type 0 where
   -- the place of two arrays, kinds and operands' bytes, at which there is no entry, with number and place
   noEntry : (thieves : ℕ) (kinds operands : List ℕ) (at number place : ℕ) → Row
 
-abbrev pub equal : List ℕ → List ℕ → Bool
-equal [] [] = true
-equal [] (y ∷ m) = false
-equal (x ∷ l) [] = false
-equal (x ∷ l) (y ∷ m) = eqb x y && equal l m
-
-abbrev pub refusedBy : Refusal → ℕ → ℕ → Bool
-refusedBy r number place = eqb (numberOf r) number && eqb (placeOf r) place
-
 abbrev pub isRead : Sizes → ℕ → Reading → Bool
 isRead s n (Accepted t entries) = equal (sizeNumbers s n) (sizeNumbers t entries)
 isRead s n (reading.Refused r) = false
@@ -49,10 +42,6 @@ isNotRead number place (reading.Refused r) = refusedBy r number place
 abbrev pub isEntry : Entry → Meaning → Bool
 isEntry e (Allowed f) = eqb (kindOf e) (kindOf f) && eqb (operandOf e) (operandOf f)
 isEntry e (meaning.Refused r) = false
-
-abbrev pub isNoEntry : ℕ → ℕ → Meaning → Bool
-isNoEntry number place (Allowed e) = false
-isNoEntry number place (meaning.Refused r) = refusedBy r number place
 
 abbrev pub holds : Row → Bool
 holds (accepts file s kinds operands) =
@@ -72,10 +61,6 @@ holds (means thieves kind operand e) =
 holds (noEntry thieves kinds operands at number place) = isNoEntry number place (entryAt thieves kinds (wordsIn operands) at)
 
 -- ── Files ───────────────────────────────────────────────────────────────────────────────────────────────────────────────────
-
-abbrev pub sized : ℕ → ℕ → ℕ → ℕ → ℕ → ℕ → Sizes
-sized slots buffer spacing margin thieves start =
-    record { slots = slots; buffer = buffer; spacing = spacing; margin = margin; thieves = thieves; start = start }
 
 -- the sizes of the example, and the same with another number of thieves
 abbrev pub example : Sizes

@@ -5,13 +5,16 @@ use Prim.Native.Nat.{ℕ}
 use lib.Dec.{eqb}
 use lib.ListN.{replicate}
 use Rattle.terms.specs.declared.outcome.Outcome.the-variants.{Moved, Place, Early, Wait, Stored, Task, Empty, Abort, Full, End}
+use Rattle.terms.specs.Lists.{equal}
 use Rattle.terms.specs.Outcome.{numberOf}
 use Rattle.terms.specs.Tally.{counted}
 use Rattle.machine.specs.Machine.{fresh}
 use Rattle.schedule.specs.Types.{Outcome, Ran, Running, Sizes, Tally}
 use Rattle.schedule.specs.Types.{BeginPut, BeginSteal, BeginTake, ClientStore, Drain, Entry, ThiefStep, WorkerStep}
 use Rattle.schedule.specs.declared.runner.Running.the-variants as running
-use Rattle.schedule.specs.Edges.{equal, exampleFile, fileWith, refusedBy, sized}
+use Rattle.terms.specs.Sizes.{sized}
+use Rattle.terms.specs.Refusal.{refusedBy}
+use Rattle.schedule.specs.Edges.{exampleFile, fileWith}
 use Rattle.terms.specs.Kinds.{kindOf, operandOf}
 use Rattle.schedule.specs.Format.{fileOf}
 use Rattle.schedule.specs.Run.{afterSteps, outcomesOfSteps, runFile, traceAfter}

@@ -1,6 +1,8 @@
 ghost use mathlib.Core.Path.{_≡_};
 ghost use Prim.Native.Nat.{_≤_};
 ghost use lib.ListN.{length};
+ghost use Rattle.terms.specs.Refusal.{Refuses};
+ghost use Rattle.schedule.specs.Faults.{fileHas, refusalInReading};
 ghost use Rattle.schedule.specs.Format.{sizesIn};
 ghost use Rattle.schedule.specs.Reader.{behind, kindPart, kindStart, operandPart, operandStart, readFile, refusalOf};
 use crate::check::Check;
@@ -38,6 +40,7 @@ fn sizes_in(file: &[u8]) -> Sizes
 // Reads a schedule file. The sizes are looked at before the length as a whole, since they say how long the file should be.
 pub fn read(file: &[u8]) -> Reading
     ensures { λ r. ⌜ r ≡ readFile (now (file .entry)) ⌝ }
+    ensures { λ r. ⌜ Refuses (fileHas (now (file .entry))) (refusalInReading r) ⌝ }
 {
     if file.len() < SIZES_BYTES {
         return Reading::Refused(Refusal::Short);

@@ -7,6 +7,8 @@ ghost use Rattle.machine.specs.Obey.{outcomesOf};
 ghost use Rattle.terms.specs.Outcome.{numberOf, valueOf};
 ghost use Rattle.schedule.specs.Demand3.{RunLinearizes};
 ghost use Rattle.schedule.specs.Entries.{checkEntries};
+ghost use Rattle.terms.specs.Refusal.{Refuses};
+ghost use Rattle.schedule.specs.Faults.{refusalInRunning, runHas};
 ghost use Rattle.schedule.specs.Format.{wordsIn};
 ghost use Rattle.number.specs.Number.{littleEndian, overwritten};
 ghost use Rattle.schedule.specs.Reader.{readFile};
@@ -122,6 +124,7 @@ pub fn run(file: &[u8], trace: &mut [u8]) -> Running
     ensures { λ r. ⌜ r ≡ runFile (now (file .entry)) (length (now (trace .entry))) ⌝ }
     ensures { λ _. ⌜ now (trace .exit) ≡ traceAfter (now (file .entry)) (now (trace .entry)) ⌝ }
     ensures { λ r. ⌜ RunLinearizes (now (file .entry)) (now (trace .exit)) r ⌝ }
+    ensures { λ r. ⌜ Refuses (runHas (now (file .entry)) (length (now (trace .entry)))) (refusalInRunning r) ⌝ }
 {
     let reading = read(file);
     let Reading::Accepted(sizes, entries) = reading else {

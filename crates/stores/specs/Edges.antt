@@ -5,8 +5,9 @@ use Prim.Native.Nat.{ℕ}
 use lib.Dec.{eqb}
 use lib.IntN.{ℤ, pos, negsuc}
 use lib.ListN.{length, replicate}
-use Rattle.stores.specs.Types.{Index, Slot, Spacing, Store, StoreBuffer}
+use Rattle.stores.specs.Types.{Index, Nobody, Slot, Spacing, Store, StoreBuffer, TheThief, TheWorker}
 use Rattle.stores.specs.Index.{aboveBy, belowByMore, eqZ, indexInRange, nextOrSame, previousOrSame, slotIndexInRange, slotOf}
+use Rattle.stores.specs.Lock.{isNobody}
 use Rattle.stores.specs.StoreBuffer.{clientStore, dropOldestOrSame, pending, pushOrSame, slotAfter, storeInRange, tailStore}
 use Rattle.stores.specs.Spacing.{countedOrSame, noTake, spacingInRange, takeBegins, tooEarly}
 
@@ -65,6 +66,10 @@ slots =
     ∷ eqb (slotAfter 4 2 9 (Slot 1 (index (pos 7)))) 9
     ∷ []
 
+-- a lock is free where nobody holds it
+abbrev pub locks : List Bool
+locks = isNobody Nobody ∷ not (isNobody TheWorker) ∷ not (isNobody (TheThief 0)) ∷ []
+
 -- a store more, where a cell is free; one less, where one is pending
 abbrev pub buffers : List Bool
 buffers =
@@ -92,4 +97,4 @@ spacings =
     ∷ []
 
 abbrev pub edges : List Bool
-edges = ranges ++ neighbours ++ distances ++ slots ++ buffers ++ spacings
+edges = ranges ++ neighbours ++ distances ++ slots ++ locks ++ buffers ++ spacings

@@ -5,6 +5,7 @@
 -- refusals, their numbers and places    Refusal
 -- kinds, operands; KIND and WHO         Kinds
 -- the three totals                      Tally
+-- the paper's numbers, a table          Numbers
 -- functions on lists                    Lists
 pub mod Types
 pub mod Sizes
@@ -12,4 +13,5 @@ pub mod Outcome
 pub mod Refusal
 pub mod Kinds
 pub mod Tally
+pub mod Numbers
 pub mod Lists

@@ -1,5 +1,6 @@
 -- Lists: functions that the library does not have. Nothing here is of the paper.
-use mathlib.Core.Bool.{Bool, true, cond, _&&_}
+use mathlib.Core.Path.{_≡_}
+use mathlib.Core.Bool.{Bool, true, false, cond, _&&_}
 use mathlib.Core.List.{List, [], _∷_, _++_}
 use Prim.Native.Nat.{ℕ, zero, suc, _+_}
 use lib.Dec.{eqb}
@@ -29,3 +30,14 @@ range n = rangeFrom 0 n
 abbrev pub occurrences : ℕ → List ℕ → ℕ
 occurrences k [] = 0
 occurrences k (x ∷ l) = cond (eqb k x) 1 0 + occurrences k l
+
+-- the same numbers in the same order
+abbrev pub equal : List ℕ → List ℕ → Bool
+equal [] [] = true
+equal [] (y ∷ m) = false
+equal (x ∷ l) [] = false
+equal (x ∷ l) (y ∷ m) = eqb x y && equal l m
+
+-- the same numbers, each as often, in whichever order
+abbrev pub Permutation : List ℕ → List ℕ → Type 0
+Permutation l m = (k : ℕ) → occurrences k l ≡ occurrences k m

@@ -2,7 +2,7 @@
 -- sentence on the trace's outcomes and values.
 use mathlib.Core.Bool.{Bool, _&&_}
 use Prim.Native.Nat.{ℕ}
-use lib.Dec.{leb}
+use lib.Dec.{eqb, leb}
 use Rattle.terms.specs.Types.{Outcome, Moved, Place, Early, Wait, Stored, Task, Empty, Abort, Full, End}
 
 -- the number of each outcome
@@ -31,10 +31,19 @@ valueOf Abort = 0
 valueOf Full = 0
 valueOf End = 0
 
--- an answer ends its call: 16 to 21
+-- 16 to 21 are answers; an answer ends its call
+abbrev pub isAnswerNumber : ℕ → Bool
+isAnswerNumber n = leb 16 n && leb n 21
+
 abbrev pub isAnswer : Outcome → Bool
-isAnswer o = leb 16 (numberOf o)
+isAnswer o = isAnswerNumber (numberOf o)
 
 -- a refusal leaves the machine as it is: 5, 6 and 7
 abbrev pub isRefusal : Outcome → Bool
 isRefusal o = leb 5 (numberOf o) && leb (numberOf o) 7
+
+abbrev pub isMoved : Outcome → Bool
+isMoved o = eqb (numberOf o) (numberOf Moved)
+
+abbrev pub isStored : Outcome → Bool
+isStored o = eqb (numberOf o) (numberOf Stored)

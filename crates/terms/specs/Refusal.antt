@@ -1,5 +1,9 @@
 -- Refusals of a whole file, in the paper's numbers. Renders "The numbers, by who can cause them": 1 to 4 and, for whoever lends a buffer, 8.
+use mathlib.Core.Path.{_≡_}
+use mathlib.Core.Bool.{Bool, true, false, _&&_}
+use mathlib.Core.List.{List, [], _∷_}
 use Prim.Native.Nat.{ℕ}
+use lib.Dec.{eqb}
 use Rattle.terms.specs.Types.{Refusal, Size, Short, Kind, Who, Room}
 
 -- the number of each refusal
@@ -17,3 +21,13 @@ placeOf Short = 0
 placeOf (Kind entry) = entry
 placeOf (Who entry) = entry
 placeOf Room = 0
+
+-- a refusal has this number and this place
+abbrev pub refusedBy : Refusal → ℕ → ℕ → Bool
+refusedBy r number place = eqb (numberOf r) number && eqb (placeOf r) place
+
+-- What an answer that may refuse promises, by the refusal in it, if there is one, and by which faults there are: number and place are those of a
+-- fault that there is; and where nothing is refused, there is none.
+abbrev pub Refuses : (ℕ → ℕ → Bool) → List Refusal → Type 0
+Refuses has [] = (number place : ℕ) → has number place ≡ false
+Refuses has (r ∷ l) = has (numberOf r) (placeOf r) ≡ true

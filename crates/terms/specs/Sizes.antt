@@ -1,10 +1,16 @@
 -- The sizes of a schedule: their ranges and the margins. Renders "The schedule file": the table, places 0 to 5 (place 6, the number
 -- of entries, is a matter of the file), and the paragraph under it.
-use mathlib.Core.Bool.{Bool, true, false, cond, _&&_}
+use mathlib.Core.Bool.{Bool, true, false, cond, not, _&&_}
 use mathlib.Core.List.{List, [], _∷_}
 use Prim.Native.Nat.{ℕ, _+_, _-_, _/_}
 use lib.Dec.{leb, eqb}
-use Rattle.terms.specs.Types.{Sizes, SizeCheck, AllInRange, OutOfRange}
+use lib.ListN.{getD}
+use Rattle.terms.specs.Types.{Refusal, Size, Sizes, SizeCheck, AllInRange, OutOfRange}
+
+-- six numbers as sizes, in the order of the table
+abbrev pub sized : ℕ → ℕ → ℕ → ℕ → ℕ → ℕ → Sizes
+sized slots buffer spacing margin thieves start =
+    record { slots = slots; buffer = buffer; spacing = spacing; margin = margin; thieves = thieves; start = start }
 
 -- a number is neither below the least nor above the greatest
 abbrev pub within : ℕ → ℕ → ℕ → Bool
@@ -29,6 +35,15 @@ firstFault place (kept ∷ l) = cond kept (firstFault (place + 1) l) (OutOfRange
 -- which size is refused, if one is: of those out of range, the one with the lowest place
 abbrev pub checkSizes : Sizes → SizeCheck
 checkSizes s = firstFault 0 (rangesKept s)
+
+-- the refusal in such an answer: SIZE, with the place
+abbrev pub refusalInSizes : SizeCheck → List Refusal
+refusalInSizes AllInRange = []
+refusalInSizes (OutOfRange place) = Size place ∷ []
+
+-- whether the six sizes have the fault with this number and this place
+abbrev pub sizesHave : Sizes → ℕ → ℕ → Bool
+sizesHave s number place = eqb number 1 && not (getD (rangesKept s) place true)
 
 abbrev pub noFault : SizeCheck → Bool
 noFault AllInRange = true

@@ -19,6 +19,7 @@ pub use entry::Entry;
 pub use kinds::Meaning;
 pub use kinds::entry_of;
 pub use outcome::Outcome;
+pub use outcome::is_answer;
 pub use refusal::Refusal;
 pub use sizes::SizeCheck;
 pub use sizes::Sizes;

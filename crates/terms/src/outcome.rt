@@ -1,5 +1,5 @@
 ghost use mathlib.Core.Path.{_≡_};
-ghost use Rattle.terms.specs.Outcome.{numberOf, valueOf};
+ghost use Rattle.terms.specs.Outcome.{isAnswerNumber, numberOf, valueOf};
 
 // The outcome of an entry.
 pub enum Outcome {
@@ -61,4 +61,11 @@ impl Outcome {
             Outcome::End => 0,
         }
     }
+}
+
+// Whether the number of an outcome, as a trace has it, is that of an answer.
+pub fn is_answer(number: u8) -> bool
+    ensures { λ r. ⌜ r ≡ isAnswerNumber number ⌝ }
+{
+    (number >= 16) & (number <= 21)
 }

@@ -1,6 +1,7 @@
 ghost use mathlib.Core.Path.{_≡_};
 ghost use mathlib.Core.Bool.{cond};
-ghost use Rattle.terms.specs.Sizes.{checkSizes, marginInUse, neededMargin, sizesInRange, within};
+ghost use Rattle.terms.specs.Refusal.{Refuses};
+ghost use Rattle.terms.specs.Sizes.{checkSizes, enoughMargin, marginInUse, neededMargin, refusalInSizes, sizesHave, sizesInRange, within};
 
 // The first six sizes of a schedule, as its file has them. The margin may be 0 here; `margin_in_use` says what that is.
 pub struct Sizes {
@@ -62,9 +63,17 @@ impl Sizes {
         if margin == 0 { self.buffer } else { margin }
     }
 
+    // Whether the margin that the thieves keep is at least the needed one.
+    pub fn enough_margin(self) -> bool
+        ensures { λ r. ⌜ r ≡ enoughMargin self ⌝ }
+    {
+        needed_margin(self.buffer, self.spacing) <= self.margin_in_use()
+    }
+
     // The place of the first size that is out of its range, if one is.
     pub fn check(self) -> SizeCheck
         ensures { λ r. ⌜ r ≡ checkSizes self ⌝ }
+        ensures { λ r. ⌜ Refuses (sizesHave self) (refusalInSizes r) ⌝ }
     {
         let start = first_fault(5, 0, 2147483647, self.start, SizeCheck::AllInRange);
         let thieves = first_fault(4, 1, 8, self.thieves, start);

@@ -6,7 +6,10 @@ use Prim.Native.Nat.{ℕ}
 use lib.Dec.{eqb}
 use lib.ListN.{replicate}
 use Rattle.schedule.specs.Format.{sizeBytes}
-use Rattle.schedule.specs.Edges.{different, differentFile, equal, example, exampleFile, exampleOperands, refusedBy, sized, withThieves}
+use Rattle.terms.specs.Lists.{equal}
+use Rattle.terms.specs.Sizes.{sized}
+use Rattle.terms.specs.Refusal.{refusedBy}
+use Rattle.schedule.specs.Edges.{different, differentFile, example, exampleFile, exampleOperands, withThieves}
 use Rattle.schedule.specs.Runs.{before}
 use Rattle.writer.specs.Types.{Sizes, Writing, Written}
 use Rattle.writer.specs.declared.writer.Writing.the-variants as writing

@@ -3,6 +3,8 @@ ghost use Prim.Native.Nat.{_+_, _*_, _≤_};
 ghost use lib.ListN.{length};
 ghost use Rattle.schedule.specs.Format.{fileOf, sizeBytes, wordBytes};
 ghost use Rattle.number.specs.Number.{overwritten};
+ghost use Rattle.terms.specs.Refusal.{Refuses};
+ghost use Rattle.writer.specs.Faults.{refusalInWriting, writingHas};
 ghost use Rattle.writer.specs.Types.{Passed};
 ghost use Rattle.writer.specs.Writer.{bufferAfter, checkWriting, writeFile};
 use crate::entries::check_arrays;
@@ -98,6 +100,7 @@ fn put_file(buffer: &mut [u8], sizes: Sizes, kinds: &[u8], operands: &[u32])
 pub fn write(sizes: Sizes, kinds: &[u8], operands: &[u32], buffer: &mut [u8]) -> Writing
     ensures { λ r. ⌜ r ≡ writeFile sizes (now (kinds .entry)) (now (operands .entry)) (length (now (buffer .entry))) ⌝ }
     ensures { λ _. ⌜ now (buffer .exit) ≡ bufferAfter sizes (now (kinds .entry)) (now (operands .entry)) (now (buffer .entry)) ⌝ }
+    ensures { λ r. ⌜ Refuses (writingHas sizes (now (kinds .entry)) (now (operands .entry)) (length (now (buffer .entry)))) (refusalInWriting r) ⌝ }
 {
     let found = check_writing(sizes, kinds, operands, buffer.len());
     if let Check::Failed(refusal) = found {

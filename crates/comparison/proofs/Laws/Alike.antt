@@ -5,18 +5,22 @@ use mathlib.Core.List.{List, [], _∷_, _++_}
 use Prim.Native.Nat.{ℕ, suc, _+_, _-_, _<_}
 use native.Mathlib.Nat.{suc-inj, suc-ne-zero}
 use native.Mathlib.Omega.{arith}
-use lib.Dec.{eqb, leb}
+use lib.Dec.{eqb}
 use lib.ListN.{length, getD}
 use borrow.Author.Tests.{eq-eqb, eqb-true}
 use Rattle.terms.specs.declared.outcome.Outcome.the-variants.{Moved}
-use Rattle.terms.specs.Outcome.{isAnswer}
+use Rattle.terms.specs.Outcome.{isAnswer, isAnswerNumber}
 use Rattle.terms.specs.Kinds.{kindOf, operandOf}
-use Rattle.terms.proofs.Laws.Tests.{and-left, and-right}
+use Rattle.terms.specs.Refusal.{Refuses}
+use Rattle.terms.proofs.Laws.Tests.{and-left, and-right, either}
 use Rattle.terms.specs.Lists.{all, concatMap, rangeFrom, range}
-use Rattle.comparison.specs.Types.{BeginPut, BeginSteal, BeginTake, ClientStore, Drain, Entry, Outcome, Sizes, ThiefStep, WorkerStep, Accepted}
+use Rattle.comparison.specs.Types.{BeginPut, BeginSteal, BeginTake, ClientStore, Drain, Entry, Likeness, Outcome, Reading, Sizes, ThiefStep, WorkerStep, Accepted}
+use Rattle.schedule.specs.declared.reader.Reading.the-variants as reading
+use Rattle.schedule.specs.Faults.{fileHas, refusalInReading}
+use Rattle.schedule.proofs.Faults.{reader-refuses-faults}
 use Rattle.schedule.specs.Format.{allBelow, entriesIn, kindsIn, operandsIn, sizesIn}
 use Rattle.schedule.specs.Trace.{Line, lineIn, lineOf, traceOf}
-use Rattle.comparison.specs.Alike.{answersOf, answersFor, partyNumber, sameAnswers, sameLine, sameLines, sameSizes}
+use Rattle.comparison.specs.Alike.{LikenessRefuses, answersOf, answersFor, likeness, likenessOf, partyNumber, sameAnswers, sameLine, sameLines, sameSizes}
 use Rattle.comparison.specs.Comparison.{answered, linesFrom, partyIn, sameForAll}
 use Rattle.number.specs.Number.{overwritten}
 use Rattle.schedule.specs.Reader.{readFile}
@@ -55,7 +59,7 @@ module _ (party n : ℕ) (file trace : List ℕ) where
 
   answered-told : (at : ℕ) (e : Entry) (o : Outcome) → Told n file trace at e o → answered party n file trace at ≡ (isAnswer o && eqb (partyNumber e) party)
   answered-told at e o told =
-      (λ i. leb 16 (told .2 i .number) && eqb (partyIn (told .0 i) (told .1 i)) party)
+      (λ i. isAnswerNumber (told .2 i .number) && eqb (partyIn (told .0 i) (told .1 i)) party)
       ∙ ap (λ k. isAnswer o && eqb k party) (party-of-entry e)
 
   -- from a place on, where the entries and the outcomes from there on are known
@@ -179,3 +183,16 @@ sizes-same s =
 
 pub equal-sizes : (s t : Sizes) → s ≡ t → sameSizes s t ≡ true
 equal-sizes s t e = subst (λ u. sameSizes s u ≡ true) e (sizes-same s)
+
+-- ── What is refused ─────────────────────────────────────────────────────────────────────────────────────────────────────────
+
+-- what `alike` promises, of the answer that it hands back
+pub alike-promises : (first second : List ℕ) (answer : Likeness) → answer ≡ likeness first second → (answer ≡ likeness first second) × LikenessRefuses first second answer
+alike-promises first second answer told =
+    (told, subst (LikenessRefuses first second) (sym told) (refuses (readFile first) (readFile second) (reader-refuses-faults first) (reader-refuses-faults second)))
+  where
+    refuses : (one other : Reading) → Refuses (fileHas first) (refusalInReading one) → Refuses (fileHas second) (refusalInReading other)
+        → LikenessRefuses first second (likenessOf first second one other)
+    refuses (reading.Refused r) other p q = p
+    refuses (Accepted s n) (reading.Refused r) p q = (p, q)
+    refuses (Accepted s n) (Accepted t m) p q = either (LikenessRefuses first second) (sameSizes s t && sameAnswers (s .thieves) first second) (p, q) (p, q)

@@ -6,15 +6,16 @@ use Prim.Native.Nat.{ℕ, zero, suc, _+_, _*_, _-_, _≤_, _<_, zero-le}
 use native.Mathlib.Nat.{le-of-eq}
 use native.Mathlib.Numerals.{add-one}
 use native.Mathlib.Omega.{arith}
-use lib.Dec.{eqb, leb}
+use lib.Dec.{eqb}
 use lib.ListN.{length, drop, getD, take}
 use lib.Seq.{drop-drop, getD-drop, getD-take}
-use borrow.Author.Tests.{eq-eqb, eqb-false, eqb-true, le-leb, lt-leb, ne-eqb}
+use borrow.Author.Tests.{eq-eqb, eqb-false, eqb-true, ne-eqb}
 use Rattle.terms.proofs.Laws.Tests.{decide}
 use Rattle.terms.specs.Lists.{all, concatMap, rangeFrom, range}
 use Rattle.terms.proofs.Laws.Lists.{all-snoc, all-range}
 use Rattle.terms.proofs.Laws.Sums.{range-suc}
 use Rattle.comparison.specs.Alike.{sameLine, sameLines}
+use Rattle.terms.specs.Outcome.{isAnswerNumber}
 use Rattle.comparison.specs.Comparison.{answered, firstFrom, linesFrom, partyIn, sameFor}
 use Rattle.schedule.specs.Format.{kindsIn, operandsIn}
 use Rattle.number.specs.Number.{ofBytes, wordAt}
@@ -40,21 +41,21 @@ operandsIn-at n file at h whole =
 -- whether an entry gets an answer for the party, by the byte of its outcome, its operand, and whose entry that makes it
 module _ (party n : ℕ) (file trace : List ℕ) (whole : length file ≡ 28 + 5 * n) (long : 4 + 5 * n ≤ length trace) (at : ℕ) (there : at < n) where
   answered-bytes : answered party n file trace at
-      ≡ (leb 16 (getD trace (4 + at) 0) && eqb (partyIn (getD file (28 + at) 0) (wordAt file (28 + n + 4 * at))) party)
+      ≡ (isAnswerNumber (getD trace (4 + at) 0) && eqb (partyIn (getD file (28 + at) 0) (wordAt file (28 + n + 4 * at))) party)
   answered-bytes =
-      λ i. leb 16 (lineIn-number n trace at there i)
+      λ i. isAnswerNumber (lineIn-number n trace at there i)
       && eqb (partyIn (kindsIn-at n file at there (omega arith) i) (operandsIn-at n file at there whole i)) party
 
-  pub answered-none : getD trace (4 + at) 0 < 16 → answered party n file trace at ≡ false
-  answered-none low =
+  pub answered-none : isAnswerNumber (getD trace (4 + at) 0) ≡ false → answered party n file trace at ≡ false
+  answered-none no-answer =
       answered-bytes
-      ∙ ap (λ b. b && eqb (partyIn (getD file (28 + at) 0) (wordAt file (28 + n + 4 * at))) party) (lt-leb 16 (getD trace (4 + at) 0) low)
+      ∙ ap (λ b. b && eqb (partyIn (getD file (28 + at) 0) (wordAt file (28 + n + 4 * at))) party) no-answer
 
-  module _ (operand whose : ℕ) (read : operand ≡ wordAt file (28 + n + 4 * at)) (of : whose ≡ partyIn (getD file (28 + at) 0) operand) (answer : 16 ≤ getD trace (4 + at) 0) where
+  module _ (operand whose : ℕ) (read : operand ≡ wordAt file (28 + n + 4 * at)) (of : whose ≡ partyIn (getD file (28 + at) 0) operand) (answer : isAnswerNumber (getD trace (4 + at) 0) ≡ true) where
     by-party : answered party n file trace at ≡ eqb whose party
     by-party =
         answered-bytes
-        ∙ (λ i. le-leb 16 (getD trace (4 + at) 0) answer i && eqb (partyIn (getD file (28 + at) 0) (sym read i)) party)
+        ∙ (λ i. answer i && eqb (partyIn (getD file (28 + at) 0) (sym read i)) party)
         ∙ ap (λ k. eqb k party) (sym of)
 
     pub answered-for : whose ≡ party → answered party n file trace at ≡ true

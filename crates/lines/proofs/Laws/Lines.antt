@@ -1,5 +1,5 @@
 -- Laws of a file's lines: those of its entries as a trace has them, and that the place of a refusal is a number of 32 bits.
-use mathlib.Core.Path.{_≡_, refl, ap, sym, _∙_}
+use mathlib.Core.Path.{_≡_, refl, ap, sym, _∙_, subst}
 use mathlib.Core.Bool.{Bool, true, false, not, false≢true, _&&_}
 use mathlib.Core.List.{List, [], _∷_, _++_}
 use Prim.Native.Nat.{ℕ, zero, suc, _+_, _≤_, _<_, suc-le-suc}
@@ -9,7 +9,7 @@ use native.Mathlib.Omega.{arith}
 use lib.Dec.{leb, lit<, ltb}
 use lib.ListN.{length, getD}
 use borrow.Author.Tests.{ltb-true}
-use Rattle.terms.specs.Refusal.{placeOf}
+use Rattle.terms.specs.Refusal.{Refuses, numberOf, placeOf}
 use Rattle.terms.specs.declared.outcome.Outcome.the-variants.{Moved}
 use Rattle.terms.specs.declared.refusal.Refusal.the-variants.{Size, Short, Kind, Who, Room}
 use Rattle.terms.proofs.Laws.Tests.{and-left}
@@ -19,7 +19,7 @@ use Rattle.terms.proofs.Laws.Lists.{all-getD}
 use Rattle.number.specs.Number.{overwritten}
 use Rattle.schedule.specs.declared.reader.Reading.the-variants as reading
 use Rattle.schedule.specs.Check.{sizesKept}
-use Rattle.schedule.specs.Faults.{fileHas, operandAllowed}
+use Rattle.schedule.specs.Faults.{fileHas, operandAllowed, refusalInReading}
 use Rattle.schedule.specs.Format.{allBelow, decode, entriesIn, kindsIn, layout, operandsIn, sizesIn}
 use Rattle.schedule.specs.Reader.{readFile}
 use Rattle.schedule.specs.Run.{outcomesIn, scheduleIn}
@@ -68,12 +68,12 @@ entries-fit : (file : List ℕ) → allBelow 256 file ≡ true → entriesIn fil
 entries-fit file bytes = ltb-true (entriesIn file) 4294967296 (all-getD (λ n. ltb n 4294967296) (decode (layout 0) file) 6 0 refl (decode-below 7 4 file bytes))
 
 pub place-fits : (file : List ℕ) → allBelow 256 file ≡ true → (r : Refusal) → readFile file ≡ reading.Refused r → placeOf r < 4294967296
-place-fits file bytes r told = go r (reader-refuses-faults file r .0 told)
+place-fits file bytes r told = go r (subst (λ a. Refuses (fileHas file) (refusalInReading a)) told (reader-refuses-faults file))
   where
     of-entry : (at : ℕ) (b : Bool) → (ltb at (entriesIn file) && b) ≡ true → at < 4294967296
     of-entry at b p = omega (arith, ltb-true at (entriesIn file) (and-left (ltb at (entriesIn file)) b p), entries-fit file bytes)
 
-    go : (r : Refusal) → fileHas file r ≡ true → placeOf r < 4294967296
+    go : (r : Refusal) → fileHas file (numberOf r) (placeOf r) ≡ true → placeOf r < 4294967296
     go (Size place) p = omega (arith, inside (sizesKept (sizesIn file) (entriesIn file)) place p)
     go Short p = omega arith
     go (Kind at) p = of-entry at _ p

@@ -7,7 +7,7 @@ use Prim.Native.Nat.{ℕ}
 use lib.Seq.{set-getD}
 use Rattle.terms.specs.Outcome.{isAnswer, isRefusal}
 use Rattle.terms.specs.Sizes.{marginInUse}
-use Rattle.terms.proofs.Laws.Tests.{either}
+use Rattle.terms.proofs.Laws.Tests.{by-test, either}
 use Rattle.stores.specs.Spacing.{tooEarly}
 use Rattle.claim.specs.Calls.{isStep, partyOf}
 use Rattle.claim.proofs.Lawful.{Lawful, isThere}
@@ -17,7 +17,7 @@ use Rattle.machine.specs.InRange.{inRange}
 use Rattle.machine.specs.Worker.{atEnd, atOrAboveHead, headIsPast, isFull, stays, workerRuns}
 use Rattle.machine.specs.Update.{withThief, withWorker}
 use Rattle.machine.specs.Thief.{keepsMargin, thiefRuns, idleThief, stays as thiefStays}
-use Rattle.machine.specs.Obey.{obey, obeyInRange, thiefIsThere}
+use Rattle.machine.specs.Obey.{OutOfRangeWaits, RefusalKeeps, obey, obeyInRange, thiefIsThere}
 use Rattle.machine.specs.Linearizable.{ffThe}
 use Rattle.machine.specs.Perform.{viewKeeping, workerView, performWorker, stepOfWorker, stepKeeping, performThief}
 
@@ -123,7 +123,7 @@ obey-obeys : (m : Machine) (e : Entry) → Obeys m e (obey m e)
 obey-obeys m e = either (Obeys m e) (inRange m && thiefIsThere (m .sizes) e) (obeyInRange-obeys m e) (refuses refl)
 
 -- 5, 6 and 7 leave the machine as it is
-pub refusal-keeps : (m : Machine) (e : Entry) → isRefusal (obey m e .outcome) ≡ true → obey m e .machine ≡ m
+pub refusal-keeps : RefusalKeeps
 refusal-keeps m e = obey-obeys m e .keeps
 
 pub sizes-kept : (m : Machine) (e : Entry) → obey m e .machine .sizes ≡ m .sizes
@@ -136,6 +136,9 @@ answers-at-steps m e answer = obey-obeys m e .answers answer
 -- 7 WAIT where the thief is not there
 pub thief-there : (m : Machine) (e : Entry) → thiefIsThere (m .sizes) e ≡ false → obey m e ≡ done Wait m
 thief-there m e gone = rw (gone, and-false)
+
+pub out-of-range-waits : OutOfRangeWaits
+out-of-range-waits m e out = by-test _ _ out
 
 -- the entry is looked at where the machine is in range and the thief there, and only there
 pub obey-by : (m : Machine) (e : Entry) {b : Bool} → (inRange m && thiefIsThere (m .sizes) e) ≡ b → obey m e ≡ cond b (obeyInRange m e) (done Wait m)

@@ -115,15 +115,11 @@ module _ {g : Environment} {n : ℕ} {m : Machine} {p : ThiefCall} (q : PlainQue
   -- ── Step 2 ──────────────────────────────────────────────────────────────────────────────────────────────────────────────────
 
   module _ (t : Index) (v : Sound g n m (TakeLoadHead t) p) where
-    -- the effect goes by the worker's tail, which is t
-    same-test : leZ (m .head .at) (workerTail m .at) ≡ atOrAboveHead t (workerView m WorkerCall.Idle)
-    same-test = ap (λ i. leZ (m .head .at) (i .at)) (seen-tail (v .buffer) ∙ sym (v .tail .holds-tail))
-
     takes : atOrAboveHead t (workerView m WorkerCall.Idle) ≡ true → StepTurn v q (workerGoesOn (TakeLoadSlot t) m)
     takes found =
         let above = leb-true (head-at (v .head)) (v .buffer .seen) (known (atOrAboveHead-is v t (v .tail .holds-tail)) found) in
         recalls v Moved (toldTake false ∷ []) (m .lock) (TakeLoadSlot t)
-        (ap (λ b. toldOf aTake (onlyWhere b false)) (sym (same-test ∙ found)))
+        (ap (λ b. toldOf aTake (onlyWhere b false)) (sym found))
         (λ i. refl)
         (recalled v (m .lock) (TakeLoadSlot t) (record { holds-tail = v .tail .holds-tail; floor = omega arith; top = omega arith }) (v .spaced) (v .lock))
         (λ g. takes-newest (workerLoad m t) refl refl refl (omega arith) (omega arith) (ap (workerLoad m) (v .tail .holds-tail)) g)
@@ -132,7 +128,7 @@ module _ {g : Environment} {n : ℕ} {m : Machine} {p : ThiefCall} (q : PlainQue
     goes-to-lock : atOrAboveHead t (workerView m WorkerCall.Idle) ≡ false → StepTurn v q (workerGoesOn (TakeLock t) m)
     goes-to-lock below =
         recalls v Moved [] (m .lock) (TakeLock t)
-        (ap (λ b. toldOf aTake (onlyWhere b false)) (sym (same-test ∙ below)))
+        (ap (λ b. toldOf aTake (onlyWhere b false)) (sym below))
         (λ i. refl)
         (recalled v (m .lock) (TakeLock t) (record { holds-tail = v .tail .holds-tail; floor = v .tail .floor; top = v .tail .top }) (v .spaced) (v .lock))
         (λ g. moves refl refl (agrees-call refl (g .room) g))

@@ -13,27 +13,28 @@ use Rattle.terms.specs.Lists.{all, range}
 use Rattle.terms.proofs.Laws.Tests.{and-left, and-right}
 use Rattle.terms.proofs.Laws.Sizes.{SizeBounds, marginInUse-some, sizes-bounds}
 use Rattle.terms.proofs.Laws.Lists.{all-map, all-range}
-use Rattle.stores.specs.Index.{indexInRange}
-use Rattle.stores.proofs.Laws.Index.{idx, idx-as, idx-in-range, idx-minus, idx-of, idx-plus}
+use Rattle.stores.specs.Index.{indexInRange, next}
+use Rattle.stores.proofs.Laws.Index.{idx, idx-as, idx-in-range, idx-minus, idx-next, idx-of, idx-plus}
 use Rattle.stores.proofs.Laws.Chain.{none}
 use Rattle.stores.proofs.Laws.Pending.{seen-tail}
 use Rattle.claim.specs.PlainQueue.{PlainQueue, emptyQueue}
 use Rattle.claim.specs.Calls.{Begun, aSteal, Party, PartyCall, worker, thief, answersTo, isNothing, noCall, parties}
 use Rattle.claim.specs.Watch.{Watch, watchFresh, watched}
 use Rattle.claim.proofs.Theorem.{Shows, linearizes, run-keeps}
-use Rattle.machine.specs.Types.{Entry, Holder, Nobody, TheWorker, TheThief, Machine, Outcome, Abort, Sizes, ThiefCall, StealLock, StealLoadHead, StealRaiseHead, StealLoadTail, StealLoadSlot, StealUnlockTask, StealRestoreHead, StealUnlockAbort, WorkerCall, PutLoadHead, PutStoreSlot, PutStoreTail, TakeStoreTail, TakeLoadHead, TakeLoadSlot, TakeLock, TakeReloadHead, TakeRestoreTail, TakeUnlockEmpty, TakeUnlockTask, TakeLoadLastSlot}
+use Rattle.machine.specs.Types.{Entry, Holder, Nobody, TheWorker, TheThief, Index, Machine, Outcome, Abort, Sizes, ThiefCall, StealLock, StealLoadHead, StealRaiseHead, StealLoadTail, StealLoadSlot, StealUnlockTask, StealRestoreHead, StealUnlockAbort, WorkerCall, PutLoadHead, PutStoreSlot, PutStoreTail, TakeStoreTail, TakeLoadHead, TakeLoadSlot, TakeLock, TakeReloadHead, TakeRestoreTail, TakeUnlockEmpty, TakeUnlockTask, TakeLoadLastSlot}
 use Rattle.machine.specs.Thief.{idleThief}
 use Rattle.machine.specs.Machine.{fresh, thiefCall, workerLoad, workerTail}
-use Rattle.machine.specs.Linearizable.{Demand3, ffThe, owes, standingInSlots, stepsUp, thiefOwes}
+use Rattle.machine.specs.Linearizable.{Demand3, StandsNow, callInside, ffThe, headBefore, loadedBetween, owes, standingInSlots, standingNow, stepsUp, tailBefore, thiefOwes}
 use Rattle.machine.proofs.Laws.Obey.{ffThe-lawful}
-use Rattle.machine.proofs.Linearizable.Invariant.{Exclusive, Environment, plainMemory, InPlace, Invariant, Sound, holds, lowered, outside, raised, stolen, thiefBegun, workerBegun}
-use Rattle.machine.proofs.Linearizable.Tasks.{shows-as, shows-list, Shows as ShowsTasks}
+use Rattle.machine.proofs.Linearizable.Invariant.{Exclusive, Environment, HeadState, HoldsTail, plainMemory, InPlace, Invariant, Sound, holds, lowered, outside, raised, stolen, thiefBegun, workerBegun}
+use Rattle.machine.proofs.Linearizable.Tasks.{shows-list}
 use Rattle.machine.proofs.Linearizable.Plain.{Plain, entry-keeps}
+use Rattle.machine.proofs.Linearizable.Watched.{watched-machine}
 
 -- ── At first ────────────────────────────────────────────────────────────────────────────────────────────────────────────────
 
 -- every thief of the fresh machine is idle
-idle-at : (s : Sizes) (i : ℕ) → ThiefCall.Idle ≡ thiefCall (fresh s) i
+pub idle-at : (s : Sizes) (i : ℕ) → ThiefCall.Idle ≡ thiefCall (fresh s) i
 idle-at s i = sym (ap (λ t. t .call) (getD-all 8 i))
   where
     getD-all : (n i : ℕ) → getD (replicate n idleThief) i idleThief ≡ idleThief
@@ -111,6 +112,66 @@ fresh-plain s ranged =
 pub run-invariant : (s : Sizes) (n : ℕ) (w : Watch Machine) (es : List Entry) → Plain s n w → Plain s (n + length es) (watched ffThe w es)
 run-invariant s n w es = run-keeps ffThe (n + length es) (Plain s) (λ n w short v e. entry-keeps v e .next) n w es (le-refl (n + length es))
 
+-- ── The tasks that stand ────────────────────────────────────────────────────────────────────────────────────────────────────
+
+-- head without what a steal has raised it by, and the worker's tail without what a take has lowered it by
+
+head-before : {start : ℕ} (head : Index) (p : ThiefCall) (v : HeadState start head p) → headBefore head p ≡ idx (v .lo + stolen p)
+head-before head ThiefCall.Idle v = v .head-is
+head-before head StealLock v = v .head-is
+head-before head StealLoadHead v = v .head-is
+head-before head (StealRaiseHead h) v = v .head-is
+head-before head (StealLoadTail h) v = idx-as (v .lo) (v .lo + 0) (v .holds-head) (omega arith)
+head-before head (StealLoadSlot h) v = v .head-is
+head-before head (StealUnlockTask x) v = v .head-is
+head-before head (StealRestoreHead h) v = idx-as (v .lo) (v .lo + 0) (v .holds-head) (omega arith)
+head-before head StealUnlockAbort v = v .head-is
+
+tail-before : (seen : ℕ) (tail : Index) (c : WorkerCall) → tail ≡ idx seen → HoldsTail c seen → tailBefore tail c ≡ idx (seen + lowered c)
+tail-before seen tail WorkerCall.Idle is holds = idx-as seen (seen + 0) is (omega arith)
+tail-before seen tail (PutLoadHead x) is holds = idx-as seen (seen + 0) is (omega arith)
+tail-before seen tail (PutStoreSlot x) is holds = idx-as seen (seen + 0) is (omega arith)
+tail-before seen tail PutStoreTail is holds = idx-as seen (seen + 0) is (omega arith)
+tail-before seen tail TakeStoreTail is holds = idx-as seen (seen + 0) is (omega arith)
+tail-before seen tail (TakeLoadHead t) is holds = ap next holds ∙ idx-next seen
+tail-before seen tail (TakeLoadSlot t) is holds = idx-as seen (seen + 0) is (omega arith)
+tail-before seen tail (TakeLock t) is holds = ap next holds ∙ idx-next seen
+tail-before seen tail (TakeReloadHead t) is holds = ap next holds ∙ idx-next seen
+tail-before seen tail (TakeRestoreTail t) is holds = ap next holds ∙ idx-next seen
+tail-before seen tail TakeUnlockEmpty is holds = idx-as seen (seen + 0) is (omega arith)
+tail-before seen tail (TakeUnlockTask t) is holds = idx-as seen (seen + 0) is (omega arith)
+tail-before seen tail (TakeLoadLastSlot t) is holds = idx-as seen (seen + 0) is (omega arith)
+
+-- the thief inside is the one that has the lock
+inside-is :
+    (m : Machine) (l : Holder) (working : Bool) (k : ℕ) (p : ThiefCall) → Exclusive l working p → ((i : ℕ) → InPlace (holds l i) k i p (thiefCall m i))
+    → callInside m l ≡ p
+inside-is m Nobody working k p x place = sym (x .1)
+inside-is m TheWorker working k p x place = sym (x .1)
+inside-is m (TheThief i) working k p x place = subst (λ b. InPlace b k i p (thiefCall m i)) (eq-eqb i i refl) (place i) .0
+
+module _ {E : Type 0} {s : Sizes} {n : ℕ} {g : Environment} {m : Machine} {q : PlainQueue} {cs : Party → PartyCall} (v : Invariant E s n g m q cs) (enough : E) where
+  -- the tasks lie between the oldest and the queue's tail
+  shown-between : (from to : Index) → from ≡ idx (v .sound .head .lo + stolen (v .inside)) → to ≡ idx (v .sound .buffer .seen + lowered (m .worker .call))
+      → map (λ t. t .number) (q .tasks) ≡ loadedBetween m from to
+  shown-between from to low high =
+      let a : ℕ = v .sound .head .lo + stolen (v .inside) in
+      let b : ℕ = v .sound .buffer .seen + lowered (m .worker .call) in
+      let c = v .agrees enough .count in
+      let steps : stepsUp (to .at -ℤ from .at) ≡ length (q .tasks) =
+      (λ j. stepsUp (high j .at -ℤ low j .at)) ∙ ap stepsUp (idx-minus b a (omega (arith, v .sound .head .floor)) (omega arith)) ∙ omega arith in
+      shows-list (λ k. workerLoad m (idx k)) a (q .tasks) (v .agrees enough .shows) ∙ sym (λ j. map (λ k. load k j) (range (steps j)))
+    where
+      load : (k : ℕ) → workerLoad m (record { at = from .at +ℤ pos k }) ≡ workerLoad m (idx (v .sound .head .lo + stolen (v .inside) + k))
+      load k = ap (λ i. workerLoad m (record { at = i .at +ℤ pos k })) low ∙ ap (workerLoad m) (idx-plus (v .sound .head .lo + stolen (v .inside)) k)
+
+  -- at every moment
+  stands-now : map (λ t. t .number) (q .tasks) ≡ standingNow m
+  stands-now =
+      shown-between (headBefore (m .head) (callInside m (m .lock .holder))) (tailBefore (workerTail m) (m .worker .call))
+      (ap (headBefore (m .head)) (inside-is m (m .lock .holder) _ (m .sizes .thieves) (v .inside) (v .sound .lock) (v .thieves)) ∙ head-before (m .head) (v .inside) (v .sound .head))
+      (tail-before (v .sound .buffer .seen) (workerTail m) (m .worker .call) (seen-tail (v .sound .buffer)) (v .sound .tail .holds-tail))
+
 -- ── Where no call runs ──────────────────────────────────────────────────────────────────────────────────────────────────────
 
 idle-worker : (m : Machine) (c : WorkerCall) → isNothing (workerBegun m c) ≡ true → lowered c ≡ 0
@@ -169,36 +230,13 @@ module _ {E : Type 0} {s : Sizes} {n : ℕ} {g : Environment} {m : Machine} {q :
   level : lowered (m .worker .call) ≡ 0
   level = idle-worker (m) (m .worker .call) worker-idle
 
-  -- so head is the oldest task's index, and the worker's tail is the queue's
-  head-lo : m .head ≡ idx (v .sound .head .lo)
-  head-lo =
-      let lo = v .sound .head .lo in
-      idx-as (lo + (raised (v .inside) + stolen (v .inside))) lo (v .sound .head .head-is) (omega (arith, ap raised alone, ap stolen alone))
-
-  steps-many : stepsUp (workerTail (m) .at -ℤ m .head .at) ≡ length (q .tasks)
-  steps-many =
-      let g = v .agrees enough in
-      let seen = v .sound .buffer .seen in
-      let lo = v .sound .head .lo in
-      let many : seen - lo ≡ length (q .tasks) = omega (arith, g .count, ap stolen alone, level) in
-      (λ j. stepsUp (seen-tail (v .sound .buffer) j .at -ℤ head-lo j .at))
-      ∙ ap stepsUp (idx-minus seen lo (omega (arith, v .sound .head .floor)) (omega (arith, g .count, level)))
-      ∙ many
-
-  load-lo : (k : ℕ) → workerLoad (m) (record { at = m .head .at +ℤ pos k }) ≡ workerLoad (m) (idx (v .sound .head .lo + k))
-  load-lo k =
-      ap (λ i. workerLoad (m) (record { at = i .at +ℤ pos k })) head-lo ∙ ap (workerLoad (m)) (idx-plus (v .sound .head .lo) k)
-
-  shown : ShowsTasks (λ k. workerLoad (m) (idx k)) (v .sound .head .lo) (q .tasks)
-  shown =
-      let lo = v .sound .head .lo in
-      shows-as (λ k. workerLoad (m) (idx k)) (lo + stolen (v .inside)) (q .tasks) (v .agrees enough .shows) lo (omega (arith, ap stolen alone))
-
-  -- the slots from head on show the tasks that stand
-  pub standing : map (λ t. t .number) (q .tasks) ≡ standingInSlots (m)
+  -- so head is the oldest task's index, and the worker's tail is the queue's: the slots between show the tasks that stand
+  pub standing : map (λ t. t .number) (q .tasks) ≡ standingInSlots m
   standing =
-      shows-list (λ k. workerLoad (m) (idx k)) (v .sound .head .lo) (q .tasks) shown
-      ∙ sym (λ j. map (λ k. load-lo k j) (range (steps-many j)))
+      let lo = v .sound .head .lo in
+      shown-between v enough (m .head) (workerTail m)
+      (idx-as (lo + (raised (v .inside) + stolen (v .inside))) (lo + stolen (v .inside)) (v .sound .head .head-is) (omega (arith, ap raised alone)))
+      (idx-as (v .sound .buffer .seen) (v .sound .buffer .seen + lowered (m .worker .call)) (seen-tail (v .sound .buffer)) (omega (arith, level)))
 
 -- ── The claim ───────────────────────────────────────────────────────────────────────────────────────────────────────────────
 
@@ -207,7 +245,7 @@ owed : {s : Sizes} {n : ℕ} {w : Watch Machine} → enoughMargin s ≡ true →
 owed enough v worker = v .worker-call enough .answers
 owed enough v (thief i) = v .thief-call enough i .answers
 
-invariant-shows : (s : Sizes) → enoughMargin s ≡ true → Shows ffThe s 4096 (Plain s)
+pub invariant-shows : (s : Sizes) → enoughMargin s ≡ true → Shows ffThe s 4096 (Plain s)
 invariant-shows s enough =
     record {
       keeps = λ n w short v e. entry-keeps v e .next;
@@ -219,3 +257,8 @@ invariant-shows s enough =
 
 pub demand3 : Demand3
 demand3 s es ranged enough short = linearizes ffThe-lawful (invariant-shows s enough) es short (fresh-plain s ranged)
+
+-- .. and the tasks that stand, at every moment
+pub run-stands-now : StandsNow
+run-stands-now s es ranged enough =
+    stands-now (run-invariant s 0 (watchFresh ffThe s) es (fresh-plain s ranged)) enough ∙ ap standingNow (watched-machine (watchFresh ffThe s) es)

@@ -10,7 +10,7 @@ use lib.Dec.{leb}
 use lib.ListN.{getD, length, length-map}
 use borrow.Author.Tests.{leb-true}
 use Rattle.terms.specs.Sizes.{checkSizes, firstFault, noFault, rangesKept, sizesInRange, within}
-use Rattle.terms.proofs.Laws.Sizes.{kept-at}
+use Rattle.terms.proofs.Laws.Sizes.{fault-told, kept-at}
 use Rattle.terms.proofs.Laws.Tests.{and-right, cond-map}
 use Rattle.terms.specs.Lists.{rangeFrom, range}
 use Rattle.terms.proofs.Laws.Sums.{length-range, range-suc}
@@ -142,12 +142,6 @@ module _ (s : Sizes) (entries : ℕ) where
   ranges-kept e =
       ap sizeRefusal (fault-append 0 (rangesKept s) (within 0 4096 entries ∷ []) e)
       ∙ sym (cond-map sizeRefusal (within 0 4096 entries) refl refl)
-
--- the test whose refusal is given failed
-fault-told : (place at : ℕ) (l : List Bool) → firstFault place l ≡ OutOfRange at → (i : ℕ) × ((place + i ≡ at) × (getD l i true ≡ false))
-fault-told place at [] e = absurd (found-none (sym e))
-fault-told place at (true ∷ l) e = let found = fault-told (place + 1) at l e in (suc (found .0), (omega (arith, found .1 .0), found .1 .1))
-fault-told place at (false ∷ l) e = let same : place ≡ at = cc in (zero, (omega arith, refl))
 
 module _ (s : Sizes) (entries : ℕ) where
   -- what the check of the seven sizes says of each

@@ -19,10 +19,10 @@ use Rattle.terms.proofs.Laws.Tests.{and-left, and-right, by-test, either}
 use Rattle.terms.specs.Lists.{all, concatMap, range}
 use Rattle.machine.specs.Machine.{fresh}
 use Rattle.machine.specs.Obey.{machineAfter, obey, outcomesOf}
-use Rattle.renumbering.specs.Renumbering.{renumberEntry, renumberOutcome}
+use Rattle.properties.specs.Renumbering.{renumberEntry, renumberOutcome}
 use Rattle.terms.proofs.Laws.Lists.{all-behind, all-getD}
 use Rattle.terms.proofs.Laws.Sums.{concatMap-append, range-suc}
-use Rattle.renumbering.proofs.Renumbering.{blind-to-numbers}
+use Rattle.properties.proofs.Renumbering.{blind-to-numbers}
 use Rattle.schedule.specs.Types.{BeginPut, BeginSteal, BeginTake, ClientStore, Drain, Entry, Refusal, ThiefStep, WorkerStep}
 use Rattle.schedule.specs.Types.{Accepted, Allowed, Machine, Meaning, Outcome, Passed, Ran, Room, Sizes, Tally}
 use Rattle.schedule.specs.declared.reader.Reading.the-variants as reading

@@ -1,6 +1,6 @@
 -- Laws of the sizes and of the margins.
-use mathlib.Core.Path.{_≡_, refl}
-use mathlib.Core.Bool.{Bool, true, false, cond, false≢true}
+use mathlib.Core.Path.{_≡_, refl, ap}
+use mathlib.Core.Bool.{Bool, true, false, and-false, cond, false≢true}
 use mathlib.Core.List.{List, [], _∷_}
 use Prim.Native.Nat.{ℕ, zero, suc, _+_, _-_, _*_, _/_, _≤_, _<_}
 use native.Mathlib.Nat.{div-eq-of-lt, div-le-of-le-mul, div-lt-iff-lt-mul, le-of-eq, le-of-suc-le-suc, lt-div-mul-add, mul-suc, suc-mul}
@@ -8,8 +8,9 @@ use native.Mathlib.Omega.{arith}
 use lib.Dec.{eqb, leb}
 use lib.ListN.{getD}
 use borrow.Author.Tests.{eqb-false, leb-true}
-use Rattle.terms.specs.Types.{Sizes}
-use Rattle.terms.specs.Sizes.{divideUp, firstFault, marginInUse, noFault, rangesKept, sizesInRange, within}
+use Rattle.terms.specs.Types.{AllInRange, OutOfRange, SizeCheck, Sizes}
+use Rattle.terms.specs.Refusal.{Refuses}
+use Rattle.terms.specs.Sizes.{checkSizes, divideUp, firstFault, marginInUse, noFault, rangesKept, refusalInSizes, sizesHave, sizesInRange, within}
 use Rattle.terms.proofs.Laws.Tests.{and-left, and-right}
 
 -- a quotient that is rounded up, by less than a whole, is at most the number itself
@@ -47,6 +48,26 @@ kept-at place [] i h = refl
 kept-at place (true ∷ l) zero h = refl
 kept-at place (true ∷ l) (suc i) h = kept-at (place + 1) l i h
 kept-at place (false ∷ l) i h = absurd (false≢true h)
+
+-- where one is, that test failed
+found-none : {at : ℕ} → AllInRange ≡ OutOfRange at → ⊥
+found-none e = let clash : _≡_ {A = ℕ} 0 1 = cc in omega arith
+
+pub fault-told : (place at : ℕ) (l : List Bool) → firstFault place l ≡ OutOfRange at → (i : ℕ) × ((place + i ≡ at) × (getD l i true ≡ false))
+fault-told place at [] e = absurd (found-none e)
+fault-told place at (true ∷ l) e = let found = fault-told (place + 1) at l e in (suc (found .0), (omega (arith, found .1 .0), found .1 .1))
+fault-told place at (false ∷ l) e = let same : place ≡ at = cc in (zero, (omega arith, refl))
+
+-- the check of the sizes refuses by a fault that they have
+pub sizes-refused : (s : Sizes) → Refuses (sizesHave s) (refusalInSizes (checkSizes s))
+sizes-refused s = go (checkSizes s) refl
+  where
+    go : (c : SizeCheck) → checkSizes s ≡ c → Refuses (sizesHave s) (refusalInSizes c)
+    go AllInRange found = λ number place. rw (kept-at 0 (rangesKept s) place (ap noFault found), and-false)
+    go (OutOfRange at) found =
+        let told = fault-told 0 at (rangesKept s) found in
+        let same : at ≡ told .0 = omega (arith, told .1 .0) in
+        rw (same, told .1 .1)
 
 within-bounds : (least greatest n : ℕ) → within least greatest n ≡ true → (least ≤ n) × (n ≤ greatest)
 within-bounds least greatest n h = (leb-true least n (and-left (leb least n) (leb n greatest) h), leb-true n greatest (and-right (leb least n) (leb n greatest) h))

@@ -6,9 +6,9 @@ use Prim.Native.Nat.{ℕ}
 use borrow.Author.Needs.{needs}
 use Rattle.terms.proofs.Laws.Tests.{known}
 use Rattle.comparison.specs.Types.{Accepted, Alike, FirstRefused, NotAlike, SecondRefused, Sizes}
-use Rattle.comparison.specs.Alike.{likeness, likenessOf, sameAnswers, sameSizes}
+use Rattle.comparison.specs.Alike.{LikenessRefuses, likeness, likenessOf, sameAnswers, sameSizes}
 use Rattle.schedule.specs.Reader.{readFile, refusalOf}
-use Rattle.comparison.proofs.Laws.Alike.{same-sizes}
+use Rattle.comparison.proofs.Laws.Alike.{alike-promises, same-sizes}
 use Rattle.comparison.proofs.likeness.alike.Statement.{statement}
 use Rattle.comparison.proofs.likeness.alike.Tie as tie
 
@@ -16,27 +16,29 @@ returns : tie.Need-returns
 returns c =
     let asked = c .before .before .before in
     let a = asked .before .before .before .args in
-    let told = known (asked .read .ensures) (c .before .enum-told .given .1) in
-    ap FirstRefused (c .refusal-of .ensures ∙ ap refusalOf (asked .read .ensures ∙ told))
-    ∙ sym (ap (λ one. likenessOf (a .first .now) (a .second .now) one (readFile (a .second .now))) told)
+    let told = known (asked .read .ensures .0) (c .before .enum-told .given .1) in
+    alike-promises (a .first .now) (a .second .now) _
+    (ap FirstRefused (c .refusal-of .ensures ∙ ap refusalOf (asked .read .ensures .0 ∙ told))
+    ∙ sym (ap (λ one. likenessOf (a .first .now) (a .second .now) one (readFile (a .second .now))) told))
 
 returns-2 : tie.Need-returns-2
 returns-2 c =
     let asked = c .before .before .before in
     let opened = asked .before .before in
     let a = opened .before .before .before .before .before .args in
-    let one = known (opened .before .before .read .ensures) (opened .reading .given .1) in
-    let told = known (asked .read2 .ensures) (c .before .enum-told2 .given .1) in
-    ap SecondRefused (c .refusal-of2 .ensures ∙ ap refusalOf (asked .read2 .ensures ∙ told))
-    ∙ sym (λ i. likenessOf (a .first .now) (a .second .now) (one i) (told i))
+    let one = known (opened .before .before .read .ensures .0) (opened .reading .given .1) in
+    let told = known (asked .read2 .ensures .0) (c .before .enum-told2 .given .1) in
+    alike-promises (a .first .now) (a .second .now) _
+    (ap SecondRefused (c .refusal-of2 .ensures ∙ ap refusalOf (asked .read2 .ensures .0 ∙ told))
+    ∙ sym (λ i. likenessOf (a .first .now) (a .second .now) (one i) (told i)))
 
 same-runs-requires : tie.Need-same-runs-requires
 same-runs-requires c κs =
     let sized = c .before in
     let other = sized .before .before in
     let opened = other .before .before .before .before in
-    let one = known (opened .before .before .read .ensures) (opened .reading .given .1) in
-    let told = known (other .before .before .read2 .ensures) (other .other .given .1) in
+    let one = known (opened .before .before .read .ensures .0) (opened .reading .given .1) in
+    let told = known (other .before .before .read2 .ensures .0) (other .other .given .1) in
     (one, told ∙ ap (λ s. Accepted s (other .other .given .0 .1 .0)) (sym (same-sizes _ _ (known (sized .same-sizes .ensures) (c .if1 .taken)))))
 
 -- Both files were read, and their sizes compared: what was found of sizes and answers decides.
@@ -44,14 +46,16 @@ decided : (c : tie.After-same-sizes) {sizes answers : Bool}
     → let opened = c .before .before .before .before .before .before in
     let a = opened .before .before .before .before .before .args in
     c .same-sizes .result ≡ sizes → sameAnswers (opened .reading .given .0 .0 .thieves) (a .first .now) (a .second .now) ≡ answers
-    → cond (sizes && answers) Alike NotAlike ≡ likeness (a .first .now) (a .second .now)
+    → let found = cond (sizes && answers) Alike NotAlike in
+    (found ≡ likeness (a .first .now) (a .second .now)) × LikenessRefuses (a .first .now) (a .second .now) found
 decided c sizes answers =
     let other = c .before .before in
     let opened = other .before .before .before .before in
     let a = opened .before .before .before .before .before .args in
-    let one = known (opened .before .before .read .ensures) (opened .reading .given .1) in
-    let told = known (other .before .before .read2 .ensures) (other .other .given .1) in
-    sym ((λ i. likenessOf (a .first .now) (a .second .now) (one i) (told i)) ∙ (λ i. cond (known (c .same-sizes .ensures) sizes i && answers i) Alike NotAlike))
+    let one = known (opened .before .before .read .ensures .0) (opened .reading .given .1) in
+    let told = known (other .before .before .read2 .ensures .0) (other .other .given .1) in
+    alike-promises (a .first .now) (a .second .now) _
+    (sym ((λ i. likenessOf (a .first .now) (a .second .now) (one i) (told i)) ∙ (λ i. cond (known (c .same-sizes .ensures) sizes i && answers i) Alike NotAlike)))
 
 returns-3 : tie.Need-returns-3
 returns-3 c = decided (c .before .before .before) (c .before .before .if1 .taken) (known (c .before .same-runs .ensures) (c .if2 .taken))

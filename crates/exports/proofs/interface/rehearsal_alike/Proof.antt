@@ -6,7 +6,7 @@ use Rattle.exports.proofs.interface.rehearsal_alike.Statement.{statemen
 use Rattle.exports.proofs.interface.rehearsal_alike.Tie as tie
 
 returns : tie.Need-returns
-returns c = c .likeness-of .ensures ∙ ap likenessAnswer (c .before .alike .ensures)
+returns c = c .likeness-of .ensures ∙ ap likenessAnswer (c .before .alike .ensures .0)
 
 pub rehearsal-alike-spec : {M : Type 1} → statement M
 rehearsal-alike-spec = tie.close (tie.spec (λ c κs. search needs) (λ c κs. search needs) returns)

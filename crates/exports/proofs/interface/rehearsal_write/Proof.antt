@@ -10,13 +10,13 @@ returns : tie.Need-returns
 returns c =
     let opened = c .before in
     let wrote = opened .before .before .before .before .write in
-    (sym (ap writingAnswer (known (wrote .ensures .0) (opened .writing .given .1))), wrote .ensures .1)
+    (sym (ap writingAnswer (known (wrote .ensures .0) (opened .writing .given .1))), wrote .ensures .1 .0)
 
 returns-2 : tie.Need-returns-2
 returns-2 c =
     let opened = c .before .before in
     let wrote = opened .before .before .before .before .write in
-    (c .answer-of .ensures ∙ sym (ap writingAnswer (known (wrote .ensures .0) (opened .writing2 .given .1))), wrote .ensures .1)
+    (c .answer-of .ensures ∙ sym (ap writingAnswer (known (wrote .ensures .0) (opened .writing2 .given .1))), wrote .ensures .1 .0)
 
 pub rehearsal-write-spec : {M : Type 1} → statement M
 rehearsal-write-spec =

@@ -20,8 +20,8 @@ put-refusal-requires c κs =
     let asked = c .before .before .before .before in
     let a = asked .before .before .before .args in
     let bytes = each-below 256 (a .file .now) (λ i. omega (arith, asked .before .shared-slice-known .given i)) in
-    let told = known (asked .read .ensures) (c .before .before .enum-told .given .1) in
-    let same = c .refusal-of .ensures ∙ ap refusalOf (asked .read .ensures ∙ told) in
+    let told = known (asked .read .ensures .0) (c .before .before .enum-told .given .1) in
+    let same = c .refusal-of .ensures ∙ ap refusalOf (asked .read .ensures .0 ∙ told) in
     (omega arith, subst (λ r. placeOf r < 4294967296) (sym same) (place-fits (a .file .now) bytes _ told))
 
 returns : tie.Need-returns
@@ -30,14 +30,14 @@ returns c =
     let refused = put .before in
     let asked = refused .before .before .before .before in
     let a = asked .before .before .before .args in
-    let told = known (asked .read .ensures) (refused .before .before .enum-told .given .1) in
-    let line = ap refusalLine (refused .refusal-of .ensures ∙ ap refusalOf (asked .read .ensures ∙ told)) ∙ sym (ap (linesFor (a .file .now)) told) in
+    let told = known (asked .read .ensures .0) (refused .before .before .enum-told .given .1) in
+    let line = ap refusalLine (refused .refusal-of .ensures ∙ ap refusalOf (asked .read .ensures .0 ∙ told)) ∙ sym (ap (linesFor (a .file .now)) told) in
     ((put .put-refusal .ensures .0 .0 ∙ ap length line, omega arith), put .put-refusal .ensures .1 ∙ ap (λ l. overwritten 0 l (a .text .now)) line)
 
 put-run-requires : tie.Need-put-run-requires
 put-run-requires c κs =
     let opened = c .before .before in
-    (omega arith, known (opened .before .before .read .ensures) (opened .reading .given .1))
+    (omega arith, known (opened .before .before .read .ensures .0) (opened .reading .given .1))
 
 pub put-lines-spec : {M : Type 1} → statement M
 put-lines-spec =

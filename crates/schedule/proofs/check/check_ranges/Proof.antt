@@ -15,21 +15,21 @@ returns : tie.Need-returns
 returns c =
     let asked = c .before .before .before in
     let a = asked .before .args in
-    sym (ranges-found (a .sizes) (a .entries) _ (known (asked .check .ensures) (c .before .found .given .1)))
+    sym (ranges-found (a .sizes) (a .entries) _ (known (asked .check .ensures .0) (c .before .found .given .1)))
 
 returns-2 : tie.Need-returns-2
 returns-2 c =
     let asked = c .before .before .before in
     let a = asked .before .args in
     let few : within 0 4096 (a .entries) ≡ true = rw (leb·zero, le-leb (a .entries) 4096 (c .if1 .taken)) in
-    sym (ranges-kept (a .sizes) (a .entries) (known (asked .check .ensures) (c .before .enum-told .given .1)) ∙ by-test Passed (Failed (Size 6)) few)
+    sym (ranges-kept (a .sizes) (a .entries) (known (asked .check .ensures .0) (c .before .enum-told .given .1)) ∙ by-test Passed (Failed (Size 6)) few)
 
 returns-3 : tie.Need-returns-3
 returns-3 c =
     let asked = c .before .before .before in
     let a = asked .before .args in
     let many : within 0 4096 (a .entries) ≡ false = rw (leb·zero, lt-leb (a .entries) 4096 (c .if1 .left)) in
-    sym (ranges-kept (a .sizes) (a .entries) (known (asked .check .ensures) (c .before .enum-told .given .1)) ∙ by-test Passed (Failed (Size 6)) many)
+    sym (ranges-kept (a .sizes) (a .entries) (known (asked .check .ensures .0) (c .before .enum-told .given .1)) ∙ by-test Passed (Failed (Size 6)) many)
 
 pub check-ranges-spec : {M : Type 1} → statement M
 check-ranges-spec =

@@ -13,13 +13,13 @@ use Rattle.schedule.proofs.reader.kind_part.Tie as tie
 -- the kinds of an accepted file lie within it
 within : (c : tie.After-known-told) → 28 + c .before .reading .given .0 .1 .0 ≤ length (c .before .before .before .before .before .args .file .now)
 within c =
-    accepted-holds (c .before .before .before .before .before .args .file .now) _ _ (known (c .before .before .before .read .ensures) (c .before .reading .given .1))
+    accepted-holds (c .before .before .before .before .before .args .file .now) _ _ (known (c .before .before .before .read .ensures .0) (c .before .reading .given .1))
 
 returns : tie.Need-returns
 returns c =
     let asked = c .before .before .before in
     let file = asked .before .before .args .file in
-    let told = known (asked .read .ensures) (c .before .enum-told .given .1) in
+    let told = known (asked .read .ensures .0) (c .before .enum-told .given .1) in
     (sym (ap (λ r. partOf r (λ entries. take entries (drop 28 (file .now)))) told), sym (ap (λ r. behind (startOf r (λ entries. 28)) (file .ptr)) told ∙ behind-none (file .ptr)))
 
 returns-2 : tie.Need-returns-2
@@ -27,7 +27,7 @@ returns-2 c =
     let asked = c .before .before .before .before in
     let file = asked .before .before .args .file in
     let entries = c .before .before .reading .given .0 .1 .0 in
-    let told = known (asked .read .ensures) (c .before .before .reading .given .1) in
+    let told = known (asked .read .ensures .0) (c .before .before .reading .given .1) in
     (part-of-length 28 entries (file .now) ∙ sym (ap (λ r. partOf r (λ entries. take entries (drop 28 (file .now)))) told), sym (ap (λ r. behind (startOf r (λ entries. 28)) (file .ptr)) told))
 
 pub kind-part-spec : {M : Type 1} → statement M

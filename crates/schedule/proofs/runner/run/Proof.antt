@@ -21,10 +21,10 @@ returns c =
     let asked = c .before .before .before in
     let a = asked .before .before .before .args in
     let bytes = each-below 256 (a .file .now) (λ i. omega (arith, asked .before .before .shared-slice-known .given i)) in
-    let told = known (asked .read .ensures) (c .before .enum-told .given .1) in
+    let told = known (asked .read .ensures .0) (c .before .enum-told .given .1) in
     let refused = run-refused (a .file .now) (length (a .trace .now)) _ told in
     run-promises (a .file .now) (a .trace .now) bytes _ _
-    (ap running.Refused (c .refusal-of .ensures ∙ ap refusalOf (asked .read .ensures ∙ told)) ∙ sym refused)
+    (ap running.Refused (c .refusal-of .ensures ∙ ap refusalOf (asked .read .ensures .0 ∙ told)) ∙ sym refused)
     (sym (ap (traceIf (traceOf (outcomesIn (a .file .now))) (a .trace .now)) refused))
 
 -- few entries
@@ -32,7 +32,7 @@ few : (c : tie.After-known-told) → c .before .reading .given .0 .1 .0 ≤ 4096
 few c =
     let asked = c .before .before .before in
     let a = asked .before .before .before .args in
-    parts-obeyed (a .file .now) _ _ (known (asked .read .ensures) (c .before .reading .given .1)) .few
+    parts-obeyed (a .file .now) _ _ (known (asked .read .ensures .0) (c .before .reading .given .1)) .few
 
 returns-2 : tie.Need-returns-2
 returns-2 c =
@@ -40,13 +40,13 @@ returns-2 c =
     let asked = opened .before .before in
     let a = asked .before .before .before .args in
     let bytes = each-below 256 (a .file .now) (λ i. omega (arith, asked .before .before .shared-slice-known .given i)) in
-    let refused = run-without-room (a .file .now) (length (a .trace .now)) _ _ (known (asked .read .ensures) (opened .reading .given .1)) (c .if1 .taken) in
+    let refused = run-without-room (a .file .now) (length (a .trace .now)) _ _ (known (asked .read .ensures .0) (opened .reading .given .1)) (c .if1 .taken) in
     run-promises (a .file .now) (a .trace .now) bytes _ _ (sym refused) (sym (ap (traceIf (traceOf (outcomesIn (a .file .now))) (a .trace .now)) refused))
 
 obey-file-requires : tie.Need-obey-file-requires
 obey-file-requires c κs =
     let opened = c .before .before .before in
-    (known (opened .before .before .read .ensures) (opened .reading .given .1), c .before .if1 .left)
+    (known (opened .before .before .read .ensures .0) (opened .reading .given .1), c .before .if1 .left)
 
 returns-3 : tie.Need-returns-3
 returns-3 c =
@@ -55,7 +55,7 @@ returns-3 c =
     let asked = opened .before .before in
     let a = asked .before .before .before .args in
     let bytes = each-below 256 (a .file .now) (λ i. omega (arith, asked .before .before .shared-slice-known .given i)) in
-    let went = run-with-room (a .file .now) (length (a .trace .now)) _ _ (known (asked .read .ensures) (opened .reading .given .1)) (ran .before .before .if1 .left) in
+    let went = run-with-room (a .file .now) (length (a .trace .now)) _ _ (known (asked .read .ensures .0) (opened .reading .given .1)) (ran .before .before .if1 .left) in
     run-promises (a .file .now) (a .trace .now) bytes _ _
     (ap Ran (ran .obey-file .ensures .0) ∙ sym went)
     (ran .obey-file .ensures .1 ∙ sym (ap (traceIf (traceOf (outcomesIn (a .file .now))) (a .trace .now)) went))

@@ -8,6 +8,7 @@ use Rattle.terms.proofs.Laws.Tests.{known}
 use Rattle.schedule.specs.Format.{fileOf}
 use Rattle.writer.specs.Writer.{writingOf, bufferIf}
 use Rattle.schedule.proofs.Laws.Check.{few-entries}
+use Rattle.writer.proofs.Faults.{write-promises}
 use Rattle.writer.proofs.Laws.Writer.{passed-writable}
 use Rattle.writer.proofs.writer.write.Statement.{statement}
 use Rattle.writer.proofs.writer.write.Tie as tie
@@ -17,7 +18,13 @@ returns c =
     let checked = c .before .before .before in
     let a = checked .before .before .before .before .args in
     let found = known (checked .check-writing .ensures) (c .before .found .given .1) in
-    (sym (ap (writingOf (28 + 5 * length (a .kinds .now))) found), sym (ap (bufferIf (fileOf (a .sizes) (a .kinds .now) (a .operands .now)) (a .buffer .now)) found))
+    let told = sym (ap (writingOf (28 + 5 * length (a .kinds .now))) found) in (
+      told,
+      (
+        sym (ap (bufferIf (fileOf (a .sizes) (a .kinds .now) (a .operands .now)) (a .buffer .now)) found),
+        write-promises (a .sizes) (a .kinds .now) (a .operands .now) (length (a .buffer .now)) _ told,
+      ),
+    )
 
 put-file-requires : tie.Need-put-file-requires
 put-file-requires c κs = known (c .before .before .before .check-writing .ensures) (c .before .enum-told .given .1)
@@ -42,9 +49,13 @@ returns-2 c =
     let put = c .before .before in
     let checked = put .before .before .before .before in
     let a = checked .before .before .before .before .args in
-    let found = known (checked .check-writing .ensures) (put .before .before .enum-told .given .1) in (
-      sym (ap (writingOf (28 + 5 * length (a .kinds .now))) found),
-      put .put-file .ensures ∙ sym (ap (bufferIf (fileOf (a .sizes) (a .kinds .now) (a .operands .now)) (a .buffer .now)) found),
+    let found = known (checked .check-writing .ensures) (put .before .before .enum-told .given .1) in
+    let told = sym (ap (writingOf (28 + 5 * length (a .kinds .now))) found) in (
+      told,
+      (
+        put .put-file .ensures ∙ sym (ap (bufferIf (fileOf (a .sizes) (a .kinds .now) (a .operands .now)) (a .buffer .now)) found),
+        write-promises (a .sizes) (a .kinds .now) (a .operands .now) (length (a .buffer .now)) _ told,
+      ),
     )
 
 pub write-spec : {M : Type 1} → statement M

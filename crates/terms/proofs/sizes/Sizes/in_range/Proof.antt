@@ -7,10 +7,10 @@ use Rattle.terms.proofs.sizes.Sizes.in_range.Statement.{statement}
 use Rattle.terms.proofs.sizes.Sizes.in_range.Tie as tie
 
 returns : tie.Need-returns
-returns c = sym (ap noFault (known (c .before .before .check .ensures) (c .enum-told .given .1)))
+returns c = sym (ap noFault (known (c .before .before .check .ensures .0) (c .enum-told .given .1)))
 
 returns-2 : tie.Need-returns-2
-returns-2 c = sym (ap noFault (known (c .before .before .check .ensures) (c .enum-told2 .given .1)))
+returns-2 c = sym (ap noFault (known (c .before .before .check .ensures .0) (c .enum-told2 .given .1)))
 
 pub in-range-spec : {M : Type 1} → statement M
 in-range-spec = tie.close (tie.spec (λ c κs. search needs) (λ c. search needs) (λ c. search needs) returns returns-2)

@@ -1,0 +1,10 @@
+-- Every row of the table of answers holds, by one computation.
+use mathlib.Core.Path.{_≡_, refl}
+use mathlib.Core.Bool.{true}
+use Rattle.terms.specs.Lists.{all}
+use Rattle.machine.specs.InRange.{inRange}
+use Rattle.exports.specs.Answers.{holds, table}
+
+pub answers-hold : all holds table ≡ true
+unfolding inRange
+answers-hold = refl

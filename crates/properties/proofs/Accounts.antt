@@ -1,0 +1,26 @@
+-- Every row of the table of accounts holds, by one computation; and the runs that give a task twice or lose one violate the claim.
+use mathlib.Core.Path.{_≡_, refl}
+use mathlib.Core.Bool.{true}
+use Prim.Native.Nat.{ℕ}
+use native.Mathlib.Omega.{arith}
+use Rattle.terms.specs.Lists.{all}
+use Rattle.machine.specs.InRange.{inRange}
+use Rattle.properties.specs.Accounts.{GivenTwiceViolates, LostViolates, accounts, holds}
+
+pub accounts-hold : all holds accounts ≡ true
+unfolding inRange
+accounts-hold = refl
+
+-- put 1 was given twice
+pub given-twice-violates : GivenTwiceViolates
+unfolding inRange
+given-twice-violates v =
+    let e : _≡_ {A = ℕ} 2 1 = v .together 1 in
+    omega arith
+
+-- put 3 was given to nobody, and does not stand
+pub lost-violates : LostViolates
+unfolding inRange
+lost-violates v =
+    let e : _≡_ {A = ℕ} 0 1 = v .together 3 in
+    omega arith

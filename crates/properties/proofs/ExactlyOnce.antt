@@ -1,0 +1,297 @@
+-- No task is lost or given twice: from demand 3, with the puts numbered apart.
+use mathlib.Core.Path.{_≡_, refl, ap, sym, _∙_, subst}
+use mathlib.Core.Bool.{Bool, true, false, cond, false≢true}
+use mathlib.Core.List.{List, [], _∷_, _++_, map}
+use Prim.Native.Nat.{ℕ, zero, suc, _+_, _≤_}
+use native.Mathlib.Omega.{arith}
+use lib.Dec.{eqb, leb}
+use lib.ListN.{getD, length}
+use borrow.Author.Tests.{eqb-false, eqb-true, le-leb, leb-false, leb-true, lt-leb}
+use Rattle.terms.specs.Lists.{concatMap, occurrences}
+use Rattle.terms.specs.Outcome.{isAnswer, isMoved, isRefusal, isStored}
+use Rattle.terms.specs.Sizes.{enoughMargin, sizesInRange}
+use Rattle.terms.proofs.Laws.Sums.{adds-occurrences}
+use Rattle.claim.specs.Calls.{Begun, nothing, aPut, aTake, aSteal, Party, worker, thief, PartyCall, callAfter, noCall, orBegun, parties, sameParty, taskIn}
+use Rattle.claim.specs.Watch.{Event, Watch, callAt, events, watchAfter, watchFresh, watched}
+use Rattle.claim.specs.Account.{storedIn}
+use Rattle.claim.specs.Linearizable.{numbersAnsweredOrOwed}
+use Rattle.claim.proofs.Account.{account-numbers}
+use Rattle.claim.proofs.Stored.{StoresAtOnce, putNumber, run-stored, stored-answers, storedFrom, storedTimes}
+use Rattle.machine.specs.Machine.{fresh, memoryLoad, thiefCall, workerLoad}
+use Rattle.machine.specs.Obey.{machineAfter, obey, outcomesOf}
+use Rattle.machine.specs.Linearizable.{ffThe, owes, thiefOwes, workerOwes}
+use Rattle.machine.proofs.Laws.Obey.{ffThe-lawful}
+use Rattle.machine.proofs.Linearizable.Theorem.{demand3, fresh-plain, invariant-shows, run-stands-now}
+use Rattle.machine.proofs.Linearizable.Watched.{events-outcomes, watched-machine}
+use Rattle.properties.specs.Types.{Entry, Drain, ClientStore, BeginPut, BeginTake, WorkerStep, BeginSteal, ThiefStep, Machine, Outcome, Moved, Place, Early, Wait, Stored, Task, Empty, Abort, Full, End, Sizes, ThiefCall, StealLock, StealLoadHead, StealRaiseHead, StealLoadTail, StealLoadSlot, StealUnlockTask, StealRestoreHead, StealUnlockAbort, WorkerCall, PutLoadHead, PutStoreSlot, PutStoreTail, TakeStoreTail, TakeLoadHead, TakeLoadSlot, TakeLock, TakeReloadHead, TakeRestoreTail, TakeUnlockEmpty, TakeUnlockTask, TakeLoadLastSlot}
+use Rattle.properties.specs.Renumbering.{renumberEntry, renumberOutcome}
+use Rattle.properties.specs.ExactlyOnce.{ExactlyOnce, NoneLostOrGivenTwice, given, held, numberIn, numberPut, numberedApart, numberedFrom, standing, stored, storedPuts}
+use Rattle.properties.proofs.Renumbering.{blind-to-numbers}
+
+-- ── Puts numbered apart ─────────────────────────────────────────────────────────────────────────────────────────────────────
+
+-- numbered back, they are the list
+numbered-back : (f : ℕ → ℕ) (k : ℕ) (es : List Entry) → ((j : ℕ) → f (k + j) ≡ getD (concatMap numberPut es) j 0) → map (renumberEntry f) (numberedFrom k es) ≡ es
+numbered-back f k [] same = refl
+numbered-back f k (Drain ∷ es) same = ap (λ l. Drain ∷ l) (numbered-back f k es same)
+numbered-back f k (ClientStore ∷ es) same = ap (λ l. ClientStore ∷ l) (numbered-back f k es same)
+numbered-back f k (BeginPut x ∷ es) same =
+    let here : k ≡ k + 0 = omega arith in
+    λ i. BeginPut ((ap f here ∙ same 0) i) ∷ numbered-back f (k + 1) es (λ j. ap f (further j) ∙ same (suc j)) i
+  where
+    further : (j : ℕ) → k + 1 + j ≡ k + suc j
+    further j = omega arith
+numbered-back f k (BeginTake ∷ es) same = ap (λ l. BeginTake ∷ l) (numbered-back f k es same)
+numbered-back f k (WorkerStep ∷ es) same = ap (λ l. WorkerStep ∷ l) (numbered-back f k es same)
+numbered-back f k (BeginSteal i ∷ es) same = ap (λ l. BeginSteal i ∷ l) (numbered-back f k es same)
+numbered-back f k (ThiefStep i ∷ es) same = ap (λ l. ThiefStep i ∷ l) (numbered-back f k es same)
+
+apart-back : (es : List Entry) → map (renumberEntry (numberIn es)) (numberedApart es) ≡ es
+apart-back es = numbered-back (numberIn es) 1 es (λ j. ap (numberIn es) (one j))
+  where
+    one : (j : ℕ) → 1 + j ≡ suc j
+    one j = omega arith
+
+length-numbered : (k : ℕ) (es : List Entry) → length (numberedFrom k es) ≡ length es
+length-numbered k [] = refl
+length-numbered k (Drain ∷ es) = ap suc (length-numbered k es)
+length-numbered k (ClientStore ∷ es) = ap suc (length-numbered k es)
+length-numbered k (BeginPut x ∷ es) = ap suc (length-numbered (k + 1) es)
+length-numbered k (BeginTake ∷ es) = ap suc (length-numbered k es)
+length-numbered k (WorkerStep ∷ es) = ap suc (length-numbered k es)
+length-numbered k (BeginSteal i ∷ es) = ap suc (length-numbered k es)
+length-numbered k (ThiefStep i ∷ es) = ap suc (length-numbered k es)
+
+-- ── Each STORED put once ────────────────────────────────────────────────────────────────────────────────────────────────────
+
+-- a number that is k, or from k up
+abbrev from : ℕ → ℕ → ℕ
+from k j = cond (leb k j) 1 0
+
+from-next : (k j : ℕ) → occurrences j (k ∷ []) + from (k + 1) j ≤ from k j
+from-next k j = go (eqb j k) (leb (k + 1) j) (leb k j) refl refl refl
+  where
+    go : (same above at : Bool) → eqb j k ≡ same → leb (k + 1) j ≡ above → leb k j ≡ at → cond same 1 0 + 0 + cond above 1 0 ≤ cond at 1 0
+    go true true at s a e = absurd (omega (arith, eqb-true j k s, leb-true (k + 1) j a))
+    go true false true s a e = omega arith
+    go true false false s a e = absurd (omega (arith, eqb-true j k s, leb-false k j e))
+    go false true true s a e = omega arith
+    go false true false s a e = absurd (omega (arith, leb-true (k + 1) j a, leb-false k j e))
+    go false false at s a e = omega arith
+
+-- puts numbered from k up: of a number no more than one, and none of a lower one but that of the put that runs
+stored-few : (j k : ℕ) (running : List ℕ) (es : List Entry) (os : List Outcome)
+    → occurrences j (storedPuts running (numberedFrom k es) os) ≤ occurrences j running + from k j
+stored-few j k running [] os = omega arith
+stored-few j k running (Drain ∷ es) [] = omega arith
+stored-few j k running (ClientStore ∷ es) [] = omega arith
+stored-few j k running (BeginPut x ∷ es) [] = omega arith
+stored-few j k running (BeginTake ∷ es) [] = omega arith
+stored-few j k running (WorkerStep ∷ es) [] = omega arith
+stored-few j k running (BeginSteal i ∷ es) [] = omega arith
+stored-few j k running (ThiefStep i ∷ es) [] = omega arith
+stored-few j k running (Drain ∷ es) (o ∷ os) = stored-few j k running es os
+stored-few j k running (ClientStore ∷ es) (o ∷ os) = stored-few j k running es os
+stored-few j k running (BeginPut x ∷ es) (o ∷ os) = go (isMoved o) (λ r. stored-few j (k + 1) r es os)
+  where
+    go : (moved : Bool) → ((r : List ℕ) → occurrences j (storedPuts r (numberedFrom (k + 1) es) os) ≤ occurrences j r + from (k + 1) j)
+        → occurrences j (storedPuts (cond moved (k ∷ []) running) (numberedFrom (k + 1) es) os) ≤ occurrences j running + from k j
+    go true few = omega (arith, few (k ∷ []), from-next k j)
+    go false few = omega (arith, few running, from-next k j)
+stored-few j k running (BeginTake ∷ es) (o ∷ os) = go (isMoved o) (λ r. stored-few j k r es os)
+  where
+    go : (moved : Bool) → ((r : List ℕ) → occurrences j (storedPuts r (numberedFrom k es) os) ≤ occurrences j r + from k j)
+        → occurrences j (storedPuts (cond moved [] running) (numberedFrom k es) os) ≤ occurrences j running + from k j
+    go true few = omega (arith, few [])
+    go false few = few running
+stored-few j k running (WorkerStep ∷ es) (o ∷ os) = go (isAnswer o) (isStored o) refl refl (λ r. stored-few j k r es os)
+  where
+    go : (answer done : Bool) → isAnswer o ≡ answer → isStored o ≡ done
+        → ((r : List ℕ) → occurrences j (storedPuts r (numberedFrom k es) os) ≤ occurrences j r + from k j)
+        → occurrences j (cond done running [] ++ storedPuts (cond answer [] running) (numberedFrom k es) os) ≤ occurrences j running + from k j
+    go true true a s few = omega (arith, adds-occurrences j .append running (storedPuts [] (numberedFrom k es) os), few [])
+    go true false a s few = omega (arith, few [])
+    go false true a s few = absurd (false≢true (sym (stored-answers o a) ∙ s))
+    go false false a s few = few running
+stored-few j k running (BeginSteal i ∷ es) (o ∷ os) = stored-few j k running es os
+stored-few j k running (ThiefStep i ∷ es) (o ∷ os) = stored-few j k running es os
+
+stored-once : (j : ℕ) (es : List Entry) (os : List Outcome) → occurrences j (storedPuts [] (numberedApart es) os) ≤ 1
+stored-once j es os = go (leb 1 j) (stored-few j 1 [] es os)
+  where
+    go : (t : Bool) → occurrences j (storedPuts [] (numberedApart es) os) ≤ 0 + cond t 1 0 → occurrences j (storedPuts [] (numberedApart es) os) ≤ 1
+    go true few = omega arith
+    go false few = omega arith
+
+-- ── STORED puts, by the watch ───────────────────────────────────────────────────────────────────────────────────────────────
+
+-- The put that runs, by entries and outcomes, is the worker's call; thieves put nothing.
+record Tracks (w : Watch Machine) (running : List ℕ) : Type 0 where
+  of-worker : putNumber (w .calls worker .begun) ≡ running
+  of-thief : (i : ℕ) → putNumber (w .calls (thief i) .begun) ≡ []
+
+-- a party's call after an entry of its own
+begun-after : (c : PartyCall) (o : Outcome) (b : Begun)
+    → putNumber (callAfter c o b .begun) ≡ cond (isAnswer o) [] (cond (isMoved o) (putNumber (orBegun c b .begun)) (putNumber (c .begun)))
+begun-after c Moved b = refl
+begun-after c Place b = refl
+begun-after c Early b = refl
+begun-after c Wait b = refl
+begun-after c Stored b = refl
+begun-after c (Task x) b = refl
+begun-after c Empty b = refl
+begun-after c Abort b = refl
+begun-after c Full b = refl
+begun-after c End b = refl
+
+alike : {A : Type 0} (t : Bool) {x : A} → cond t x x ≡ x
+alike true = refl
+alike false = refl
+
+-- an entry that is no step does not answer
+no-answer : (m : Machine) (e : Entry) → ffThe .isStep e ≡ false → isAnswer (obey m e .outcome) ≡ false
+no-answer m e silent = go (isAnswer (obey m e .outcome)) refl
+  where
+    go : (t : Bool) → isAnswer (obey m e .outcome) ≡ t → t ≡ false
+    go true a = sym (ffThe-lawful .answers-at-steps m e a) ∙ silent
+    go false a = refl
+
+-- no put runs in a thief's call, whatever its entry
+none-after : (c : PartyCall) (o : Outcome) (b : Begun) → putNumber (c .begun) ≡ [] → putNumber (orBegun c b .begun) ≡ [] → putNumber (callAfter c o b .begun) ≡ []
+none-after c o b is begun = begun-after c o b ∙ (λ i. cond (isAnswer o) [] (cond (isMoved o) (begun i) (is i))) ∙ ap (cond (isAnswer o) []) (alike (isMoved o)) ∙ alike (isAnswer o)
+
+module _ (c : PartyCall) (o : Outcome) (running : List ℕ) (is : putNumber (c .begun) ≡ running) where
+  -- the worker's call after a step ..
+  step-after : putNumber (callAfter c o nothing .begun) ≡ cond (isAnswer o) [] running
+  step-after = begun-after c o nothing ∙ ap (cond (isAnswer o) []) (alike (isMoved o) ∙ is)
+
+  -- .. and after another entry, which does not answer
+  other-after : (b : Begun) → isAnswer o ≡ false → putNumber (callAfter c o b .begun) ≡ cond (isMoved o) (putNumber (orBegun c b .begun)) running
+  other-after b silent = begun-after c o b ∙ (λ i. cond (silent i) [] (cond (isMoved o) (putNumber (orBegun c b .begun)) (is i)))
+
+  idle-after : isAnswer o ≡ false → putNumber (callAfter c o nothing .begun) ≡ running
+  idle-after silent = step-after ∙ ap (λ t. cond t [] running) silent
+
+-- the put that runs after an entry
+abbrev runningAfter : List ℕ → Entry → Outcome → List ℕ
+runningAfter running Drain o = running
+runningAfter running ClientStore o = running
+runningAfter running (BeginPut x) o = cond (isMoved o) (x ∷ []) running
+runningAfter running BeginTake o = cond (isMoved o) [] running
+runningAfter running WorkerStep o = cond (isAnswer o) [] running
+runningAfter running (BeginSteal i) o = running
+runningAfter running (ThiefStep i) o = running
+
+module _ (w : Watch Machine) (running : List ℕ) (v : Tracks w running) where
+  abbrev out : Entry → Outcome
+  out e = obey (w .machine) e .outcome
+
+  -- of a thief's entry, its own call and those of the others
+  thieves-after : (i : ℕ) (c : PartyCall) → putNumber (c .begun) ≡ [] → (j : ℕ) → putNumber (cond (sameParty (thief j) (thief i)) c (w .calls (thief j)) .begun) ≡ []
+  thieves-after i c own j = go (sameParty (thief j) (thief i))
+    where
+      go : (t : Bool) → putNumber (cond t c (w .calls (thief j)) .begun) ≡ []
+      go true = own
+      go false = v .of-thief j
+
+  tracks-after : (e : Entry) → Tracks (watchAfter ffThe w e) (runningAfter running e (out e))
+  tracks-after Drain = record { of-worker = idle-after (callAt ffThe w Drain) (out Drain) running (v .of-worker) (no-answer (w .machine) Drain refl); of-thief = v .of-thief }
+  tracks-after ClientStore = record { of-worker = idle-after (callAt ffThe w ClientStore) (out ClientStore) running (v .of-worker) (no-answer (w .machine) ClientStore refl); of-thief = v .of-thief }
+  tracks-after (BeginPut x) = record { of-worker = other-after (callAt ffThe w (BeginPut x)) (out (BeginPut x)) running (v .of-worker) (aPut x) (no-answer (w .machine) (BeginPut x) refl); of-thief = v .of-thief }
+  tracks-after BeginTake = record { of-worker = other-after (callAt ffThe w BeginTake) (out BeginTake) running (v .of-worker) aTake (no-answer (w .machine) BeginTake refl); of-thief = v .of-thief }
+  tracks-after WorkerStep = record { of-worker = step-after (callAt ffThe w WorkerStep) (out WorkerStep) running (v .of-worker); of-thief = v .of-thief }
+  tracks-after (BeginSteal i) =
+      record { of-worker = v .of-worker; of-thief = thieves-after i _ (none-after (callAt ffThe w (BeginSteal i)) (out (BeginSteal i)) aSteal (v .of-thief i) refl) }
+  tracks-after (ThiefStep i) =
+      record { of-worker = v .of-worker; of-thief = thieves-after i _ (none-after (callAt ffThe w (ThiefStep i)) (out (ThiefStep i)) nothing (v .of-thief i) (v .of-thief i)) }
+
+  -- what an entry other than the worker's step adds is nothing: it does not answer, or no put runs in its call
+  silent-adds : (e : Entry) → ffThe .isStep e ≡ false → (l : List ℕ) → cond (isStored (out e)) l [] ≡ []
+  silent-adds e silent l = ap (λ t. cond t l []) (stored-answers (out e) (no-answer (w .machine) e silent))
+
+-- the numbers of the STORED puts, by the watch and by entries and outcomes
+stored-as-read : (w : Watch Machine) (running : List ℕ) (es : List Entry) → Tracks w running → storedFrom ffThe w es ≡ storedPuts running es (outcomesOf (w .machine) es)
+stored-as-read w running [] v = refl
+stored-as-read w running (Drain ∷ es) v =
+    λ i. silent-adds w running v Drain refl (putNumber (w .calls worker .begun)) i ++ stored-as-read (watchAfter ffThe w Drain) running es (tracks-after w running v Drain) i
+stored-as-read w running (ClientStore ∷ es) v =
+    λ i. silent-adds w running v ClientStore refl (putNumber (w .calls worker .begun)) i ++ stored-as-read (watchAfter ffThe w ClientStore) running es (tracks-after w running v ClientStore) i
+stored-as-read w running (BeginPut x ∷ es) v =
+    λ i. silent-adds w running v (BeginPut x) refl (putNumber (w .calls worker .begun)) i ++ stored-as-read (watchAfter ffThe w (BeginPut x)) _ es (tracks-after w running v (BeginPut x)) i
+stored-as-read w running (BeginTake ∷ es) v =
+    λ i. silent-adds w running v BeginTake refl (putNumber (w .calls worker .begun)) i ++ stored-as-read (watchAfter ffThe w BeginTake) _ es (tracks-after w running v BeginTake) i
+stored-as-read w running (WorkerStep ∷ es) v =
+    λ i. cond (isStored (obey (w .machine) WorkerStep .outcome)) (v .of-worker i) [] ++ stored-as-read (watchAfter ffThe w WorkerStep) _ es (tracks-after w running v WorkerStep) i
+stored-as-read w running (BeginSteal j ∷ es) v =
+    λ i. silent-adds w running v (BeginSteal j) refl (putNumber (w .calls (thief j) .begun)) i ++ stored-as-read (watchAfter ffThe w (BeginSteal j)) running es (tracks-after w running v (BeginSteal j)) i
+stored-as-read w running (ThiefStep j ∷ es) v =
+    λ i. (ap (λ l. cond (isStored (obey (w .machine) (ThiefStep j) .outcome)) l []) (v .of-thief j) ∙ alike (isStored (obey (w .machine) (ThiefStep j) .outcome))) i
+    ++ stored-as-read (watchAfter ffThe w (ThiefStep j)) running es (tracks-after w running v (ThiefStep j)) i
+
+-- ── Exactly once ────────────────────────────────────────────────────────────────────────────────────────────────────────────
+
+-- no call owes STORED: a put answers at its effect
+worker-owes-none : (m : Machine) (c : WorkerCall) → storedTimes (workerOwes m c) ≡ 0
+worker-owes-none m WorkerCall.Idle = refl
+worker-owes-none m (PutLoadHead x) = refl
+worker-owes-none m (PutStoreSlot x) = refl
+worker-owes-none m PutStoreTail = refl
+worker-owes-none m TakeStoreTail = refl
+worker-owes-none m (TakeLoadHead t) = refl
+worker-owes-none m (TakeLoadSlot t) = refl
+worker-owes-none m (TakeLock t) = refl
+worker-owes-none m (TakeReloadHead t) = refl
+worker-owes-none m (TakeRestoreTail t) = refl
+worker-owes-none m TakeUnlockEmpty = refl
+worker-owes-none m (TakeUnlockTask t) = refl
+worker-owes-none m (TakeLoadLastSlot t) = refl
+
+thief-owes-none : (m : Machine) (c : ThiefCall) → storedTimes (thiefOwes (Abort ∷ []) m c) ≡ 0
+thief-owes-none m ThiefCall.Idle = refl
+thief-owes-none m StealLock = refl
+thief-owes-none m StealLoadHead = refl
+thief-owes-none m (StealRaiseHead h) = refl
+thief-owes-none m (StealLoadTail h) = refl
+thief-owes-none m (StealLoadSlot h) = refl
+thief-owes-none m (StealUnlockTask x) = refl
+thief-owes-none m (StealRestoreHead h) = refl
+thief-owes-none m StealUnlockAbort = refl
+
+stores-at-once : StoresAtOnce ffThe
+stores-at-once = record { owes-none = owes-none; told = λ c. refl }
+  where
+    owes-none : (m : Machine) (p : Party) → storedTimes (owes m p) ≡ 0
+    owes-none m worker = worker-owes-none m (m .worker .call)
+    owes-none m (thief i) = thief-owes-none m (thiefCall m i)
+
+concatMap-outcomes : (h : List Event) → concatMap (λ v. taskIn (v .outcome)) h ≡ concatMap taskIn (map (λ v. v .outcome) h)
+concatMap-outcomes [] = refl
+concatMap-outcomes (v ∷ h) = ap (λ l. taskIn (v .outcome) ++ l) (concatMap-outcomes h)
+
+module _ (s : Sizes) (es : List Entry) (ranged : sizesInRange s ≡ true) (enough : enoughMargin s ≡ true) (short : length es ≤ 4096) where
+  -- by every count: what was given, is held or stands is what was STORED
+  all-accounted : (k : ℕ) → occurrences k (given s es ++ held s es ++ standing s es) ≡ occurrences k (stored s es)
+  all-accounted k =
+      let w₀ : Watch Machine = watchFresh ffThe s in
+      let h : List Event = events ffThe w₀ es in
+      let w : Watch Machine = watched ffThe w₀ es in
+      let l = demand3 s es ranged enough short in
+      omega (
+        arith,
+        account-numbers (adds-occurrences k) ffThe-lawful s es (l .answers) (l .held),
+        adds-occurrences k .append (given s es ++ held s es) (standing s es),
+        adds-occurrences k .append (given s es) (held s es),
+        adds-occurrences k .append (concatMap (λ v. taskIn (v .outcome)) h) (concatMap taskIn (concatMap (owes (w .machine)) (parties s))),
+        ap (occurrences k) (concatMap-outcomes h ∙ ap (concatMap taskIn) (events-outcomes w₀ es)),
+        ap (λ m. occurrences k (concatMap taskIn (concatMap (owes m) (parties s)))) (watched-machine w₀ es),
+        ap (occurrences k) (run-stands-now s es ranged enough),
+        ap (occurrences k) (run-stored stores-at-once (invariant-shows s enough) 0 w₀ es (omega arith) (fresh-plain s ranged) ∙ stored-as-read w₀ [] es (record { of-worker = refl; of-thief = λ i. refl })),
+      )
+
+pub none-lost-or-given-twice : NoneLostOrGivenTwice
+none-lost-or-given-twice s es ranged enough short =
+    record {
+      outcomes = ap (outcomesOf (fresh s)) (sym (apart-back es)) ∙ blind-to-numbers (numberIn es) refl s (numberedApart es);
+      together = all-accounted s (numberedApart es) ranged enough (subst (λ n. n ≤ 4096) (sym (length-numbered 1 es)) short);
+      once = λ k. stored-once k es (outcomesOf (fresh s) (numberedApart es));
+    }

@@ -1,0 +1,4 @@
+pub mod Renumbering
+pub mod ExactlyOnce
+pub mod Accounts
+pub mod CallLength

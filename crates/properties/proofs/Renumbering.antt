@@ -1,0 +1,338 @@
+-- No step of the machine depends on a task's number: a machine whose tasks are numbered anew does what the machine does, numbered anew.
+use mathlib.Core.Path.{_≡_, refl, ap, sym, _∙_}
+use mathlib.Core.Bool.{not, _&&_}
+use mathlib.Core.List.{List, [], _∷_, map, map-append}
+use Prim.Native.Nat.{ℕ}
+use lib.Dec.{eqb}
+use lib.ListN.{List·getD-map, getD, replicate}
+use Rattle.terms.proofs.Laws.Tests.{cond-map}
+use Rattle.terms.proofs.Laws.Lists.{all-map, foldl-map, map-drop, map-replicate, map-set, map-take}
+use Rattle.stores.specs.Index.{slotOf}
+use Rattle.stores.specs.Lock.{isNobody}
+use Rattle.stores.specs.Spacing.{tooEarly}
+use Rattle.stores.specs.StoreBuffer.{clientStore, dropOldest, oldest, pending, pushedIn, slotAfter, slotsAfter, storeInRange, tailAfter}
+use Rattle.machine.specs.Worker.{atEnd, atOrAboveHead, headIsPast, isFull, loads, workerInRange, workerMove, workerRuns}
+use Rattle.machine.specs.Thief.{idleThief, keepsMargin, loads as thiefLoads, thiefInRange, thiefMove, thiefRuns}
+use Rattle.machine.specs.Machine.{done, fresh, hasRoom, memoryLoad, memoryLoads, nothingPending, thiefCall, workerLoad, workerLoads, workerTail}
+use Rattle.machine.specs.Update.{withMemory, withThief, withWorker}
+use Rattle.machine.specs.InRange.{inRange}
+use Rattle.machine.specs.Obey.{obey, obeyInRange, outcomesOf, thiefIsThere}
+use Rattle.machine.specs.Perform.{thiefView, workerView, performWorker, stepOfWorker, performThief, stepOfThief}
+use Rattle.machine.specs.Entries.{drain, unlessWorkerRuns, workerGoesOn}
+use Rattle.properties.specs.Types.{Entry, Drain, ClientStore, BeginPut, BeginTake, WorkerStep, BeginSteal, ThiefStep, Done, Index, Load, NoSlot, SlotOf, Machine, Outcome, Moved, Sizes, Store, StoreBuffer, StoreKind, Client, Tail, Slot, Push, Nothing, One, Thief, ThiefCall, StealLock, StealLoadHead, StealRaiseHead, StealLoadTail, StealLoadSlot, StealUnlockTask, StealRestoreHead, StealUnlockAbort, ThiefView, ThiefMove, WorkerCall, PutLoadHead, PutStoreSlot, PutStoreTail, TakeStoreTail, TakeLoadHead, TakeLoadSlot, TakeLock, TakeReloadHead, TakeRestoreTail, TakeUnlockEmpty, TakeUnlockTask, TakeLoadLastSlot, WorkerView, WorkerMove}
+use Rattle.properties.specs.Renumbering.{BlindToNumbers, renumberEntry, renumberOutcome}
+
+-- the thieves replaced
+abbrev withThieves : List Thief → Machine → Machine
+withThieves l m = record { sizes = m .sizes; slots = m .slots; head = m .head; tail = m .tail; lock = m .lock; buffer = m .buffer; spacing = m .spacing; worker = m .worker; thieves = l }
+
+module _ (f : ℕ → ℕ) where
+  -- ── A machine numbered anew by f ────────────────────────────────────────────────────────────────────────────────────────────
+
+  abbrev renumberKind : StoreKind → StoreKind
+  renumberKind Client = Client
+  renumberKind (Tail t) = Tail t
+  renumberKind (Slot x i) = Slot (f x) i
+
+  abbrev renumberStore : Store → Store
+  renumberStore s = record { kind = renumberKind (s .kind) }
+
+  abbrev renumberBuffer : StoreBuffer → StoreBuffer
+  renumberBuffer b = record { stores = map renumberStore (b .stores); count = b .count }
+
+  abbrev renumberWorker : WorkerCall → WorkerCall
+  renumberWorker WorkerCall.Idle = WorkerCall.Idle
+  renumberWorker (PutLoadHead x) = PutLoadHead (f x)
+  renumberWorker (PutStoreSlot x) = PutStoreSlot (f x)
+  renumberWorker PutStoreTail = PutStoreTail
+  renumberWorker TakeStoreTail = TakeStoreTail
+  renumberWorker (TakeLoadHead t) = TakeLoadHead t
+  renumberWorker (TakeLoadSlot t) = TakeLoadSlot t
+  renumberWorker (TakeLock t) = TakeLock t
+  renumberWorker (TakeReloadHead t) = TakeReloadHead t
+  renumberWorker (TakeRestoreTail t) = TakeRestoreTail t
+  renumberWorker TakeUnlockEmpty = TakeUnlockEmpty
+  renumberWorker (TakeUnlockTask t) = TakeUnlockTask t
+  renumberWorker (TakeLoadLastSlot t) = TakeLoadLastSlot t
+
+  abbrev renumberSteal : ThiefCall → ThiefCall
+  renumberSteal ThiefCall.Idle = ThiefCall.Idle
+  renumberSteal StealLock = StealLock
+  renumberSteal StealLoadHead = StealLoadHead
+  renumberSteal (StealRaiseHead h) = StealRaiseHead h
+  renumberSteal (StealLoadTail h) = StealLoadTail h
+  renumberSteal (StealLoadSlot h) = StealLoadSlot h
+  renumberSteal (StealUnlockTask x) = StealUnlockTask (f x)
+  renumberSteal (StealRestoreHead h) = StealRestoreHead h
+  renumberSteal StealUnlockAbort = StealUnlockAbort
+
+  abbrev renumberThief : Thief → Thief
+  renumberThief t = record { call = renumberSteal (t .call) }
+
+  abbrev renumber : Machine → Machine
+  renumber m =
+      withMemory (map f (m .slots)) (m .tail) (renumberBuffer (m .buffer))
+      (withWorker (renumberWorker (m .worker .call)) (withThieves (map renumberThief (m .thieves)) m))
+
+  abbrev renumberDone : Done → Done
+  renumberDone d = record { machine = renumber (d .machine); outcome = renumberOutcome f (d .outcome) }
+
+  -- .. what a party sees, and what its step does
+
+  abbrev renumberPush : Push → Push
+  renumberPush Nothing = Nothing
+  renumberPush (One k) = One (renumberKind k)
+
+  abbrev renumberWorkerView : WorkerView → WorkerView
+  renumberWorkerView v =
+      record {
+        call = renumberWorker (v .call);
+        slots = v .slots;
+        tail = v .tail;
+        head = v .head;
+        lock = v .lock;
+        room = v .room;
+        drained = v .drained;
+        loaded = f (v .loaded);
+      }
+
+  abbrev renumberWorkerMove : WorkerMove → WorkerMove
+  renumberWorkerMove d =
+      record { push = renumberPush (d .push); lock = d .lock; call = renumberWorker (d .call); outcome = renumberOutcome f (d .outcome) }
+
+  abbrev renumberThiefView : ThiefView → ThiefView
+  renumberThiefView v =
+      record {
+        call = renumberSteal (v .call);
+        me = v .me;
+        head = v .head;
+        tail = v .tail;
+        lock = v .lock;
+        margin = v .margin;
+        loaded = f (v .loaded);
+      }
+
+  abbrev renumberThiefMove : ThiefMove → ThiefMove
+  renumberThiefMove d = record { head = d .head; lock = d .lock; call = renumberSteal (d .call); outcome = renumberOutcome f (d .outcome) }
+
+  -- ── What looks at no number comes out the same ──────────────────────────────────────────────────────────────────────────────
+
+  -- a function that has the same value wherever a number stands has the same value at a kind of store, at a worker's and at a thief's call
+  kind-blind : {A : Type 0} (g : StoreKind → A) → ((i : Index) (x : ℕ) → g (Slot (f x) i) ≡ g (Slot x i))
+      → (k : StoreKind) → g (renumberKind k) ≡ g k
+  kind-blind g slot Client = refl
+  kind-blind g slot (Tail t) = refl
+  kind-blind g slot (Slot x i) = slot i x
+
+  worker-blind : {A : Type 0} (g : WorkerCall → A) → ((x : ℕ) → g (PutLoadHead (f x)) ≡ g (PutLoadHead x))
+      → ((x : ℕ) → g (PutStoreSlot (f x)) ≡ g (PutStoreSlot x)) → (c : WorkerCall) → g (renumberWorker c) ≡ g c
+  worker-blind g load store WorkerCall.Idle = refl
+  worker-blind g load store (PutLoadHead x) = load x
+  worker-blind g load store (PutStoreSlot x) = store x
+  worker-blind g load store PutStoreTail = refl
+  worker-blind g load store TakeStoreTail = refl
+  worker-blind g load store (TakeLoadHead t) = refl
+  worker-blind g load store (TakeLoadSlot t) = refl
+  worker-blind g load store (TakeLock t) = refl
+  worker-blind g load store (TakeReloadHead t) = refl
+  worker-blind g load store (TakeRestoreTail t) = refl
+  worker-blind g load store TakeUnlockEmpty = refl
+  worker-blind g load store (TakeUnlockTask t) = refl
+  worker-blind g load store (TakeLoadLastSlot t) = refl
+
+  thief-blind : {A : Type 0} (g : ThiefCall → A) → ((x : ℕ) → g (StealUnlockTask (f x)) ≡ g (StealUnlockTask x))
+      → (c : ThiefCall) → g (renumberSteal c) ≡ g c
+  thief-blind g task ThiefCall.Idle = refl
+  thief-blind g task StealLock = refl
+  thief-blind g task StealLoadHead = refl
+  thief-blind g task (StealRaiseHead h) = refl
+  thief-blind g task (StealLoadTail h) = refl
+  thief-blind g task (StealLoadSlot h) = refl
+  thief-blind g task (StealUnlockTask x) = task x
+  thief-blind g task (StealRestoreHead h) = refl
+  thief-blind g task StealUnlockAbort = refl
+
+  -- an entry numbered anew names the same thief
+  entry-blind : (s : Sizes) (e : Entry) → thiefIsThere s (renumberEntry f e) ≡ thiefIsThere s e
+  entry-blind s Drain = refl
+  entry-blind s ClientStore = refl
+  entry-blind s (BeginPut x) = refl
+  entry-blind s BeginTake = refl
+  entry-blind s WorkerStep = refl
+  entry-blind s (BeginSteal i) = refl
+  entry-blind s (ThiefStep i) = refl
+
+  pending-renumber : (b : StoreBuffer) → pending (renumberBuffer b) ≡ map renumberStore (pending b)
+  pending-renumber b = map-take renumberStore (b .count) (b .stores)
+
+  in-range-renumber : (m : Machine) → inRange (renumber m) ≡ inRange m
+  unfolding inRange
+  in-range-renumber m =
+      rw (
+        pending-renumber (m .buffer),
+        all-map renumberStore (λ s. storeInRange (s .kind)) (λ s. kind-blind storeInRange (λ i x. refl) (s .kind)) (pending (m .buffer)),
+        worker-blind workerInRange (λ x. refl) (λ x. refl) (m .worker .call),
+        all-map renumberThief (λ t. thiefInRange (t .call)) (λ t. thief-blind thiefInRange (λ x. refl) (t .call)) (m .thieves),
+      )
+
+  -- the worker loads the same tail
+  tail-renumber : (m : Machine) → workerTail (renumber m) ≡ workerTail m
+  tail-renumber m =
+      rw (pending-renumber (m .buffer))
+      (foldl-map renumberStore (λ t. t) _ _ (λ t s. kind-blind (tailAfter t) (λ i x. refl) (s .kind)) (m .tail) (pending (m .buffer)))
+
+  -- ── What an entry changes ───────────────────────────────────────────────────────────────────────────────────────────────────
+
+  -- a store becomes pending, if there is one
+  push-renumber : (p : Push) (b : StoreBuffer) → pushedIn (renumberPush p) (renumberBuffer b) ≡ renumberBuffer (pushedIn p b)
+  push-renumber Nothing b = refl
+  push-renumber (One k) b = rw (map-set renumberStore (b .stores) (b .count) (record { kind = k }))
+
+  -- a drain: what the oldest store leaves in the slots, the oldest store, and the others
+  slots-renumber : (n : ℕ) (l : List ℕ) (k : StoreKind) → slotsAfter n (map f l) (renumberKind k) ≡ map f (slotsAfter n l k)
+  slots-renumber n l Client = refl
+  slots-renumber n l (Tail t) = refl
+  slots-renumber n l (Slot x i) = map-set f l (slotOf n i) x
+
+  oldest-renumber : (b : StoreBuffer) → oldest (renumberBuffer b) ≡ renumberStore (oldest b)
+  oldest-renumber b = List·getD-map renumberStore (b .stores) 0 clientStore
+
+  drop-oldest-renumber : (b : StoreBuffer) → dropOldest (renumberBuffer b) ≡ renumberBuffer (dropOldest b)
+  drop-oldest-renumber b = simp (map-append, map-drop, map-take)
+
+  drain-renumber : (m : Machine) → drain (renumber m) ≡ renumberDone (drain m)
+  drain-renumber m =
+      let k = oldest (m .buffer) .kind in
+      rw (
+        oldest-renumber (m .buffer),
+        slots-renumber (m .sizes .slots) (m .slots) k,
+        kind-blind (tailAfter (m .tail)) (λ i x. refl) k,
+        drop-oldest-renumber (m .buffer),
+      )
+      (cond-map renumberDone (not (nothingPending m)) refl refl)
+
+  -- a beginning or a client store, unless the worker's call runs
+  unless-renumber : (m : Machine) (d : Done) {r : Done} → r ≡ renumberDone d
+      → unlessWorkerRuns (renumber m) r ≡ renumberDone (unlessWorkerRuns m d)
+  unless-renumber m d e =
+      rw (worker-blind workerRuns (λ x. refl) (λ x. refl) (m .worker .call))
+      (cond-map renumberDone (workerRuns (m .worker .call)) refl e)
+
+  -- the next step of thief i is c, with this outcome
+  thief-renumber : (o : Outcome) (i : ℕ) (c : ThiefCall) (m : Machine)
+      → done (renumberOutcome f o) (withThief i (renumberSteal c) (renumber m)) ≡ renumberDone (done o (withThief i c m))
+  thief-renumber o i c m = rw (map-set renumberThief (m .thieves) i (record { call = c }))
+
+  -- a thief's call, and what a pending store makes of the value loaded from a slot
+  thief-call-renumber : (m : Machine) (i : ℕ) → thiefCall (renumber m) i ≡ renumberSteal (thiefCall m i)
+  thief-call-renumber m i = ap (λ t. t .call) (List·getD-map renumberThief (m .thieves) i idleThief)
+
+  slot-renumber : (n k v : ℕ) (s : StoreKind) → slotAfter n k (f v) (renumberKind s) ≡ f (slotAfter n k v s)
+  slot-renumber n k v Client = refl
+  slot-renumber n k v (Tail t) = refl
+  slot-renumber n k v (Slot x i) = cond-map f (eqb (slotOf n i) k) refl refl
+
+  -- ── Each step, as its party sees the machine ────────────────────────────────────────────────────────────────────────────────
+
+  work-renumber : (c : WorkerCall) (v : WorkerView)
+      → workerMove (renumberWorker c) (renumberWorkerView v) ≡ renumberWorkerMove (workerMove c v)
+  work-renumber WorkerCall.Idle v = refl
+  work-renumber (PutLoadHead x) v = cond-map renumberWorkerMove (atEnd v) refl (cond-map renumberWorkerMove (isFull v) refl refl)
+  work-renumber (PutStoreSlot x) v = cond-map renumberWorkerMove (v .room) refl refl
+  work-renumber PutStoreTail v = cond-map renumberWorkerMove (v .room) refl refl
+  work-renumber TakeStoreTail v = cond-map renumberWorkerMove (v .room) refl refl
+  work-renumber (TakeLoadHead t) v = cond-map renumberWorkerMove (atOrAboveHead t v) refl refl
+  work-renumber (TakeLoadSlot t) v = refl
+  work-renumber (TakeLock t) v = cond-map renumberWorkerMove (isNobody (v .lock .holder) && v .drained) refl refl
+  work-renumber (TakeReloadHead t) v = cond-map renumberWorkerMove (headIsPast t v) refl refl
+  work-renumber (TakeRestoreTail t) v = cond-map renumberWorkerMove (v .room) refl refl
+  work-renumber TakeUnlockEmpty v = cond-map renumberWorkerMove (v .drained) refl refl
+  work-renumber (TakeUnlockTask t) v = cond-map renumberWorkerMove (v .drained) refl refl
+  work-renumber (TakeLoadLastSlot t) v = refl
+
+  steal-renumber : (c : ThiefCall) (v : ThiefView)
+      → thiefMove (renumberSteal c) (renumberThiefView v) ≡ renumberThiefMove (thiefMove c v)
+  steal-renumber ThiefCall.Idle v = refl
+  steal-renumber StealLock v = cond-map renumberThiefMove (isNobody (v .lock .holder)) refl refl
+  steal-renumber StealLoadHead v = refl
+  steal-renumber (StealRaiseHead h) v = refl
+  steal-renumber (StealLoadTail h) v = cond-map renumberThiefMove (keepsMargin h (v .tail) (v .margin)) refl refl
+  steal-renumber (StealLoadSlot h) v = refl
+  steal-renumber (StealUnlockTask x) v = refl
+  steal-renumber (StealRestoreHead h) v = refl
+  steal-renumber StealUnlockAbort v = refl
+
+  -- ── With 0 for 0: a slot that holds no task holds 0 ─────────────────────────────────────────────────────────────────────────
+  module _ (zero-kept : f 0 ≡ 0) where
+    -- what a thief and what the worker load from a slot
+    thief-load-renumber : (m : Machine) (i : Index) → memoryLoad (renumber m) i ≡ f (memoryLoad m i)
+    thief-load-renumber m i =
+        let k = slotOf (m .sizes .slots) i in
+        ap (getD (map f (m .slots)) k) (sym zero-kept) ∙ List·getD-map f (m .slots) k 0
+
+    worker-load-renumber : (m : Machine) (i : Index) → workerLoad (renumber m) i ≡ f (workerLoad m i)
+    worker-load-renumber m i =
+        rw (thief-load-renumber m i, pending-renumber (m .buffer))
+        (foldl-map renumberStore f _ _ (λ v s. slot-renumber _ _ v (s .kind)) (memoryLoad m i) (pending (m .buffer)))
+
+    -- .. if they load from one
+    thief-loads-renumber : (m : Machine) (l : Load) → memoryLoads (renumber m) l ≡ f (memoryLoads m l)
+    thief-loads-renumber m NoSlot = sym zero-kept
+    thief-loads-renumber m (SlotOf i) = thief-load-renumber m i
+
+    worker-loads-renumber : (m : Machine) (l : Load) → workerLoads (renumber m) l ≡ f (workerLoads m l)
+    worker-loads-renumber m NoSlot = sym zero-kept
+    worker-loads-renumber m (SlotOf i) = worker-load-renumber m i
+
+    -- what a party sees, and what its step does to the machine
+    worker-step-renumber : (m : Machine) (c : WorkerCall) → stepOfWorker (renumber m) (renumberWorker c) ≡ renumberDone (stepOfWorker m c)
+    worker-step-renumber m c =
+        let d = workerMove c (workerView m c) in
+        let sees : workerView (renumber m) (renumberWorker c) ≡ renumberWorkerView (workerView m c) =
+        rw (worker-blind loads (λ x. refl) (λ x. refl) c, worker-loads-renumber m (loads c), tail-renumber m) in
+        let does : performWorker (renumber m) (renumberWorkerMove d) ≡ renumberDone (performWorker m d) = rw (push-renumber (d .push) (m .buffer)) in
+        ap (λ v. performWorker (renumber m) (workerMove (renumberWorker c) v)) sees ∙ ap (performWorker (renumber m)) (work-renumber c (workerView m c)) ∙ does
+
+    thief-step-renumber : (i : ℕ) (m : Machine) (c : ThiefCall)
+        → stepOfThief i (renumber m) (renumberSteal c) ≡ renumberDone (stepOfThief i m c)
+    thief-step-renumber i m c =
+        let d = thiefMove c (thiefView m i c) in
+        let sees : thiefView (renumber m) i (renumberSteal c) ≡ renumberThiefView (thiefView m i c) =
+        rw (thief-blind thiefLoads (λ x. refl) c, thief-loads-renumber m (thiefLoads c)) in
+        let does : performThief i (renumber m) (renumberThiefMove d) ≡ renumberDone (performThief i m d) =
+        rw (map-set renumberThief (m .thieves) i (record { call = d .call })) in
+        ap (λ v. performThief i (renumber m) (thiefMove (renumberSteal c) v)) sees ∙ ap (performThief i (renumber m)) (steal-renumber c (thiefView m i c)) ∙ does
+
+    -- each entry, each list
+    obey-in-range-renumber : (m : Machine) (e : Entry) → obeyInRange (renumber m) (renumberEntry f e) ≡ renumberDone (obeyInRange m e)
+    obey-in-range-renumber m Drain = drain-renumber m
+    obey-in-range-renumber m ClientStore = unless-renumber m _ (rw (push-renumber (One Client) (m .buffer)) (cond-map renumberDone (hasRoom m) refl refl))
+    obey-in-range-renumber m (BeginPut x) = unless-renumber m (workerGoesOn (PutLoadHead x) m) refl
+    obey-in-range-renumber m BeginTake = unless-renumber m _ (cond-map renumberDone (tooEarly (m .spacing) (m .sizes .spacing)) refl refl)
+    obey-in-range-renumber m WorkerStep = worker-step-renumber m (m .worker .call)
+    obey-in-range-renumber m (BeginSteal i) =
+        rw (thief-call-renumber m i, thief-blind thiefRuns (λ x. refl) (thiefCall m i))
+        (cond-map renumberDone (thiefRuns (thiefCall m i)) refl (thief-renumber Moved i StealLock m))
+    obey-in-range-renumber m (ThiefStep i) = rw (thief-call-renumber m i) (thief-step-renumber i m (thiefCall m i))
+
+    obey-renumber : (m : Machine) (e : Entry) → obey (renumber m) (renumberEntry f e) ≡ renumberDone (obey m e)
+    obey-renumber m e =
+        rw (in-range-renumber m, entry-blind (m .sizes) e)
+        (cond-map renumberDone (inRange m && thiefIsThere (m .sizes) e) (obey-in-range-renumber m e) refl)
+
+    outcomes-renumber : (m : Machine) (es : List Entry)
+        → outcomesOf (renumber m) (map (renumberEntry f) es) ≡ map (renumberOutcome f) (outcomesOf m es)
+    outcomes-renumber m [] = refl
+    outcomes-renumber m (e ∷ es) =
+        rw (obey-renumber m e) (ap (λ l. renumberOutcome f (obey m e .outcome) ∷ l) (outcomes-renumber (obey m e .machine) es))
+
+    -- the fresh machine holds no number but 0
+    fresh-renumber : (s : Sizes) → renumber (fresh s) ≡ fresh s
+    fresh-renumber s =
+        ap (λ l. withMemory l (fresh s .tail) (fresh s .buffer) (fresh s))
+        (map-replicate f 256 0 ∙ ap (replicate 256) zero-kept)
+
+pub blind-to-numbers : BlindToNumbers
+blind-to-numbers f zero-kept s es =
+    ap (λ m. outcomesOf m (map (renumberEntry f) es)) (sym (fresh-renumber f zero-kept s))
+    ∙ outcomes-renumber f zero-kept (fresh s) es

@@ -1,0 +1,55 @@
+-- The accounts of some lists, computed: numbered apart, the numbers that were given, are held or stand, and those of the STORED puts. With enough margin they are the same numbers;
+-- with a margin that is short, a task is given twice, or lost. `proofs/Accounts.antt` proves one fact: every row holds; and that the last two statements are true.
+use mathlib.Core.Bool.{Bool, _&&_}
+use mathlib.Core.List.{List, [], _∷_, _++_}
+use Prim.Native.Nat.{ℕ}
+use Rattle.terms.specs.Lists.{equal}
+use Rattle.terms.specs.Sizes.{sized}
+use Rattle.machine.specs.Rehearsals.{Line, drains, entriesIn, filled, m2, m2Sizes, m3, m3Sizes, does, puts, thiefMoves, workerMoves}
+use Rattle.properties.specs.Types.{BeginSteal, BeginTake, Moved, Sizes}
+use Rattle.properties.specs.ExactlyOnce.{ExactlyOnce, given, held, numberedApart, standing, stored}
+
+pub data Row : Type 0 where
+  account : Sizes → List Line → (given held standing stored : List ℕ) → Row
+
+abbrev pub holds : Row → Bool
+holds (account s l g h t p) =
+    equal (given s (numberedApart (entriesIn l))) g
+    && equal (held s (numberedApart (entriesIn l))) h
+    && equal (standing s (numberedApart (entriesIn l))) t
+    && equal (stored s (numberedApart (entriesIn l))) p
+
+-- M2's 11 is given twice; a task that is put then is lost: it lies below head, which the second of the two has raised
+abbrev pub lost : List Line
+lost = m2 ++ drains 2 ++ puts 13
+
+-- two tasks of one number, of which a take has one and has yet to answer
+abbrev pub oneHeld : List Line
+oneHeld = puts 7 ++ drains 2 ++ puts 7 ++ drains 2 ++ does BeginTake Moved ∷ workerMoves 2
+
+-- a steal has raised head, and a take has lowered the tail, and neither has got a task
+abbrev pub headRaised : List Line
+headRaised = filled 2 ++ does (BeginSteal 0) Moved ∷ thiefMoves 3
+
+abbrev pub tailLowered : List Line
+tailLowered = filled 2 ++ does BeginTake Moved ∷ workerMoves 1
+
+abbrev pub accounts : List Row
+accounts =
+    account m3Sizes m3 (2 ∷ 1 ∷ []) [] [] (1 ∷ 2 ∷ [])
+    ∷ account m2Sizes m2 (2 ∷ 1 ∷ 1 ∷ []) [] [] (1 ∷ 2 ∷ [])
+    ∷ account m2Sizes lost (2 ∷ 1 ∷ 1 ∷ []) [] [] (1 ∷ 2 ∷ 3 ∷ [])
+    ∷ account m3Sizes oneHeld [] (2 ∷ []) (1 ∷ []) (1 ∷ 2 ∷ [])
+    ∷ account m3Sizes headRaised [] [] (1 ∷ 2 ∷ []) (1 ∷ 2 ∷ [])
+    ∷ account m3Sizes tailLowered [] [] (1 ∷ 2 ∷ []) (1 ∷ 2 ∷ [])
+    -- both at once: a steal has raised head, and a take has lowered the tail
+    ∷ account m3Sizes (headRaised ++ does BeginTake Moved ∷ workerMoves 1) [] [] (1 ∷ 2 ∷ []) (1 ∷ 2 ∷ [])
+    ∷ account (sized 4 2 1 1 1 0) (filled 3 ++ does (BeginSteal 0) Moved ∷ thiefMoves 4) [] (1 ∷ []) (2 ∷ 3 ∷ []) (1 ∷ 2 ∷ 3 ∷ [])
+    ∷ []
+
+-- M2's run violates `ExactlyOnce`, since put 1 is given twice; and so does the run in which put 3 is lost
+abbrev pub GivenTwiceViolates : Type 0
+GivenTwiceViolates = ExactlyOnce m2Sizes (entriesIn m2) → ⊥
+
+abbrev pub LostViolates : Type 0
+LostViolates = ExactlyOnce m2Sizes (entriesIn lost) → ⊥

@@ -1,0 +1,95 @@
+-- No task is lost or given twice, said of the machine alone: there is no plain queue in it. Renders, of "Demand 3's plain queue", that tasks are told apart by
+-- their put, and that each is given to exactly one call or still stands.
+--
+-- Each put of a list gets a number of its own, so that a number names one put. That changes no outcome but for the numbers (`outcomes`); and the numbers that were
+-- answered with TASK, those that running calls hold and those that stand in the queue are together the numbers of the STORED puts (`together`), each once (`once`).
+use mathlib.Core.Path.{_≡_}
+use mathlib.Core.Bool.{true, cond}
+use mathlib.Core.List.{List, [], _∷_, _++_, map}
+use Prim.Native.Nat.{ℕ, _+_, _≤_}
+use lib.ListN.{getD, length}
+use Rattle.terms.specs.Lists.{Permutation, concatMap, occurrences}
+use Rattle.terms.specs.Outcome.{isAnswer, isMoved, isStored}
+use Rattle.terms.specs.Sizes.{enoughMargin, sizesInRange}
+use Rattle.claim.specs.Calls.{parties, taskIn}
+use Rattle.machine.specs.Machine.{fresh}
+use Rattle.machine.specs.Obey.{machineAfter, outcomesOf}
+use Rattle.machine.specs.Linearizable.{owes, standingNow}
+use Rattle.properties.specs.Types.{Entry, Drain, ClientStore, BeginPut, BeginTake, WorkerStep, BeginSteal, ThiefStep, Machine, Outcome, Sizes}
+use Rattle.properties.specs.Renumbering.{renumberOutcome}
+
+-- ── Puts numbered apart ─────────────────────────────────────────────────────────────────────────────────────────────────────
+
+abbrev pub numberedFrom : ℕ → List Entry → List Entry
+numberedFrom k [] = []
+numberedFrom k (Drain ∷ es) = Drain ∷ numberedFrom k es
+numberedFrom k (ClientStore ∷ es) = ClientStore ∷ numberedFrom k es
+numberedFrom k (BeginPut x ∷ es) = BeginPut k ∷ numberedFrom (k + 1) es
+numberedFrom k (BeginTake ∷ es) = BeginTake ∷ numberedFrom k es
+numberedFrom k (WorkerStep ∷ es) = WorkerStep ∷ numberedFrom k es
+numberedFrom k (BeginSteal i ∷ es) = BeginSteal i ∷ numberedFrom k es
+numberedFrom k (ThiefStep i ∷ es) = ThiefStep i ∷ numberedFrom k es
+
+-- put k of the list gets number k, counted from 1: the slots hold 0 at first, so 0 names no put
+abbrev pub numberedApart : List Entry → List Entry
+numberedApart es = numberedFrom 1 es
+
+-- the numbers that the list itself gives to its puts, in their order, and the one that it gives to put k
+abbrev pub numberPut : Entry → List ℕ
+numberPut Drain = []
+numberPut ClientStore = []
+numberPut (BeginPut x) = x ∷ []
+numberPut BeginTake = []
+numberPut WorkerStep = []
+numberPut (BeginSteal i) = []
+numberPut (ThiefStep i) = []
+
+abbrev pub numberIn : List Entry → ℕ → ℕ
+numberIn es k = getD (0 ∷ concatMap numberPut es) k 0
+
+-- ── The STORED puts ─────────────────────────────────────────────────────────────────────────────────────────────────────────
+
+-- Their numbers, by entries and outcomes: STORED answers the put that runs, whose number is in a list of at most one. It runs from its beginning to the worker's next
+-- answer, and no take begins meanwhile.
+abbrev pub storedPuts : List ℕ → List Entry → List Outcome → List ℕ
+storedPuts running [] os = []
+storedPuts running (e ∷ es) [] = []
+storedPuts running (Drain ∷ es) (o ∷ os) = storedPuts running es os
+storedPuts running (ClientStore ∷ es) (o ∷ os) = storedPuts running es os
+storedPuts running (BeginPut x ∷ es) (o ∷ os) = storedPuts (cond (isMoved o) (x ∷ []) running) es os
+storedPuts running (BeginTake ∷ es) (o ∷ os) = storedPuts (cond (isMoved o) [] running) es os
+storedPuts running (WorkerStep ∷ es) (o ∷ os) = cond (isStored o) running [] ++ storedPuts (cond (isAnswer o) [] running) es os
+storedPuts running (BeginSteal i ∷ es) (o ∷ os) = storedPuts running es os
+storedPuts running (ThiefStep i ∷ es) (o ∷ os) = storedPuts running es os
+
+-- ── The account of a list ───────────────────────────────────────────────────────────────────────────────────────────────────
+
+module _ (s : Sizes) (es : List Entry) where
+  -- the numbers that were answered with TASK, those that running calls hold, and those that stand
+  abbrev pub given : List ℕ
+  given = concatMap taskIn (outcomesOf (fresh s) es)
+
+  abbrev pub held : List ℕ
+  held = concatMap taskIn (concatMap (owes (machineAfter (fresh s) es)) (parties s))
+
+  abbrev pub standing : List ℕ
+  standing = standingNow (machineAfter (fresh s) es)
+
+  -- the numbers of the STORED puts
+  abbrev pub stored : List ℕ
+  stored = storedPuts [] es (outcomesOf (fresh s) es)
+
+-- ── Exactly once ────────────────────────────────────────────────────────────────────────────────────────────────────────────
+
+-- `together` is what enough margin is for; `outcomes` and `once` hold with any.
+pub record ExactlyOnce (s : Sizes) (es : List Entry) : Type 0 where
+  -- the outcomes are those of the list with its puts numbered apart, the numbers exchanged
+  pub outcomes : outcomesOf (fresh s) es ≡ map (renumberOutcome (numberIn es)) (outcomesOf (fresh s) (numberedApart es))
+  -- in that list, what was given, is held or stands is what was STORED ..
+  pub together : Permutation (given s (numberedApart es) ++ held s (numberedApart es) ++ standing s (numberedApart es)) (stored s (numberedApart es))
+  -- .. and no number stands in it twice
+  pub once : (k : ℕ) → occurrences k (stored s (numberedApart es)) ≤ 1
+
+-- Of the lists that demand 3 speaks of. Each prefix of a list is a list, so it is true at every moment. Proved in `proofs/ExactlyOnce.antt`.
+abbrev pub NoneLostOrGivenTwice : Type 0
+NoneLostOrGivenTwice = (s : Sizes) (es : List Entry) → sizesInRange s ≡ true → enoughMargin s ≡ true → length es ≤ 4096 → ExactlyOnce s es

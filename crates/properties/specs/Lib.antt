@@ -1,0 +1,10 @@
+-- What else is true of every run. Names in quotation marks are places of the scope paper, 01.
+--
+-- no step depends on a task's number    Renumbering
+-- no task is lost or given twice        ExactlyOnce, Accounts
+-- how many steps a call has              CallLength
+pub mod Types
+pub mod Renumbering
+pub mod ExactlyOnce
+pub mod Accounts
+pub mod CallLength

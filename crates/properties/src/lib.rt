@@ -1,0 +1,5 @@
+// What else is true of every run: theorems about the machine's definitions, and no code.
+//
+// - no task is lost or given twice, said of the machine alone (`specs/ExactlyOnce.antt`, with computed accounts in `specs/Accounts.antt`);
+// - no step depends on a task's number (`specs/Renumbering.antt`);
+// - how many steps a call has (`specs/CallLength.antt`).
