@@ -2,15 +2,10 @@
 
 use crate::checks::{Case, Verdict};
 use crate::damage::damaged;
-use crate::generate;
-use crate::likeness;
-use crate::lines;
-use crate::plain;
 use crate::random::Random;
-use crate::schedule::{Draft, MOST_ENTRIES};
-use crate::sides::REFERENCE;
+use crate::schedule::MOST_ENTRIES;
 use crate::tally::{Count, Tally};
-use crate::writer;
+use crate::{generate, likeness, plain, writer};
 
 /// One random case. Every other one has the next length, until all lengths have
 /// come up once; the rest are short to medium, so that a run of few cases has
@@ -29,10 +24,11 @@ pub fn case(seed: u64, number: u64, tally: &mut Tally) -> Verdict {
 }
 
 /// A file from elsewhere, accepted or not, through what needs no chance.
-pub fn file(file: &[u8], pattern: u64, tally: &mut Tally) -> Verdict {
+pub fn file(file: &[u8], tally: &mut Tally) -> Verdict {
+    let pattern = file.iter().copied().map(u64::from).sum();
     match Case::new(file, pattern).examine(tally)? {
-        Some(ran) => plain::examine(file, &ran, tally),
-        None => Ok(()),
+        Ok(ran) => plain::examine(file, &ran, tally),
+        Err(_) => Ok(()),
     }
 }
 
@@ -52,18 +48,11 @@ fn length(random: &mut Random) -> usize {
 fn sound(length: usize, random: &mut Random, tally: &mut Tally) -> Verdict {
     tally.count(Count::SoundFiles);
     let file = generate::schedule(length, random).bytes();
-    let case = Case::new(&file, random.word());
-    let refused = || case.disagreement("a sound schedule is refused".into());
-    let ran = case.examine(tally)?.ok_or_else(refused)?;
+    let ran = Case::new(&file, random.word()).accepted(tally)?;
     plain::examine(&file, &ran, tally)?;
     // Every pair costs four runs, so only a share of the files has one.
     if random.chance(if length > 1500 { 100 } else { 300 }) {
         likeness::examine(&file, &ran, random, tally)?;
-    }
-    if random.chance(100) {
-        tally.count(Count::LinesCompared);
-        let made = lines::of_run(&Draft::of_accepted(&file), &ran);
-        case.hold("the program's lines", made, reference::lines(&file))?;
     }
     Ok(())
 }
@@ -72,15 +61,7 @@ fn sound(length: usize, random: &mut Random, tally: &mut Tally) -> Verdict {
 fn damage(length: usize, random: &mut Random, tally: &mut Tally) -> Verdict {
     tally.count(Count::DamagedFiles);
     let whole = generate::schedule(length, random).bytes();
-    let file = damaged(&whole, random);
-    let case = Case::new(&file, random.word());
-    if let Some(ran) = case.examine(tally)? {
-        plain::examine(&file, &ran, tally)?;
-    } else if random.chance(200) {
-        tally.count(Count::LinesCompared);
-        let made = lines::of_refusal((REFERENCE.read)(&file, &mut []));
-        case.hold("the program's lines", made, reference::lines(&file))?;
-    }
+    file(&damaged(&whole, random), tally)?;
     if random.chance(200) {
         likeness::with_damage(&whole, random, tally)?;
     }

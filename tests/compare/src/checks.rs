@@ -3,13 +3,10 @@
 use std::fmt::Debug;
 
 use crate::lent::Lent;
-use crate::schedule::{number_at, Draft};
-use crate::sides::{Answer, Side, PROVED, REFERENCE};
+use crate::schedule::{number_at, trace_room, Draft, ABORT, TASK, WAIT};
+use crate::sides::{Answer, Side, PROVED, REFERENCE, SIZES_ROOM, TOTALS_ROOM};
 use crate::tally::{Tally, OUTCOMES};
 
-/// Room for the six sizes, and for the three totals.
-pub const SIZES_ROOM: usize = 24;
-pub const TOTALS_ROOM: usize = 12;
 /// The refusal when lent memory is too short.
 pub const NO_ROOM: Answer = Answer::refused(8, 0);
 
@@ -42,13 +39,21 @@ pub type Verdict = Result<(), Disagreement>;
 pub struct Ran {
     pub outcomes: Vec<u8>,
     pub values: Vec<u32>,
-    /// Given, aborts, waits.
-    pub totals: [u32; 3],
 }
 
-/// The bytes of a trace.
-pub const fn trace_room(entries: usize) -> usize {
-    4 + 5 * entries
+impl Ran {
+    fn of(trace: &[u8], entries: usize) -> Self {
+        let (outcomes, values) = trace[4..trace_room(entries)].split_at(entries);
+        Ran {
+            outcomes: outcomes.to_vec(),
+            values: values.chunks_exact(4).map(number_at).collect(),
+        }
+    }
+
+    fn count(&self, wanted: u8) -> u32 {
+        let seen = self.outcomes.iter().filter(|&&outcome| outcome == wanted);
+        seen.count() as u32
+    }
 }
 
 /// One file on its way through the comparisons.
@@ -63,47 +68,56 @@ impl<'a> Case<'a> {
         Case { file, pattern }
     }
 
-    /// All comparisons of a single file. Gives the run of an accepted file and
-    /// nothing for a refused one.
-    pub fn examine(&self, tally: &mut Tally) -> Result<Option<Ran>, Disagreement> {
-        let read = self.read(SIZES_ROOM)?;
+    /// All comparisons of a single file. Gives the run of an accepted file, the
+    /// refusal of another.
+    pub fn examine(&self, tally: &mut Tally) -> Result<Result<Ran, Answer>, Disagreement> {
+        let (read, sizes) = self.read(SIZES_ROOM)?;
         if read.is_refused() {
             tally.refusal(read.number);
+            self.hold("a refused read leaves its memory", true, sizes.untouched())?;
             self.refused_run(read)?;
-            return Ok(None);
+            return Ok(Err(read));
         }
-        let ran = self.run(read.low as usize, tally)?;
+        let given = sizes.content();
+        self.hold("sizes as written", &self.file[..SIZES_ROOM], given)?;
+        let entries = read.low as usize;
+        let ran = self.run(entries, tally)?;
+        self.short_run(entries, tally)?;
         self.round_trip(tally)?;
-        Ok(Some(ran))
+        Ok(Ok(ran))
+    }
+
+    /// The same for a file that must be accepted.
+    pub fn accepted(&self, tally: &mut Tally) -> Result<Ran, Disagreement> {
+        let refused = |answer| self.disagreement(format!("a sound file is refused: {answer:?}"));
+        self.examine(tally)?.map_err(refused)
     }
 
     /// Reads on both sides, with `room` bytes lent for the sizes.
-    pub fn read(&self, room: usize) -> Result<Answer, Disagreement> {
-        let file = self.file;
+    pub fn read(&self, room: usize) -> Result<(Answer, Lent), Disagreement> {
         let (answer, [sizes]) = self.lend("read", [("sizes", room)], |side, [lent]| {
-            (side.read)(file, lent)
+            (side.read)(self.file, lent)
         })?;
-        if answer.is_refused() {
-            self.hold("a refused read leaves its memory", true, sizes.untouched())?;
-        } else {
-            // Numbers are put whole or not at all.
-            let used = room.min(SIZES_ROOM) / 4 * 4;
-            self.hold("sizes as written", &file[..used], &sizes.content()[..used])?;
-            self.hold("read's memory beyond", true, sizes.untouched_beyond(used))?;
-        }
-        Ok(answer)
+        Ok((answer, sizes))
+    }
+
+    /// Runs on both sides with given room for the trace and the totals.
+    pub fn raw_run(&self, rooms: [usize; 2]) -> Result<(Answer, [Lent; 2]), Disagreement> {
+        let rooms = [("trace", rooms[0]), ("totals", rooms[1])];
+        self.lend("run", rooms, |side, [trace, totals]| {
+            (side.run)(self.file, trace, totals)
+        })
     }
 
     /// A refused file is refused alike by a run, whatever room there is.
     fn refused_run(&self, read: Answer) -> Verdict {
         let room = (self.pattern % 67) as usize;
-        let (answer, lent) = self.raw_run([room, TOTALS_ROOM])?;
+        let (answer, lent) = self.raw_run([room, room % (TOTALS_ROOM + 1)])?;
         self.hold("a run's refusal", read, answer)?;
         let untouched = lent.iter().all(Lent::untouched);
         self.hold("a refused run leaves its memory", true, untouched)
     }
 
-    /// Runs an accepted file: with enough room, and one byte short of it.
     fn run(&self, entries: usize, tally: &mut Tally) -> Result<Ran, Disagreement> {
         let needed = trace_room(entries);
         // Half of the cases lend exactly what is needed, the rest some more.
@@ -111,46 +125,33 @@ impl<'a> Case<'a> {
         let (answer, [trace, totals]) = self.raw_run([needed + spare, TOTALS_ROOM])?;
         self.hold("an accepted run", Answer::value(0), answer)?;
         self.hold("trace beyond", true, trace.untouched_beyond(needed))?;
-        let ran = take_apart(entries, trace.content(), totals.content());
-        self.sound_trace(entries, trace.content(), &ran)?;
+        let ran = Ran::of(trace.content(), entries);
+        let head = number_at(&trace.content()[..4]);
+        self.hold("entries in the trace", entries, head as usize)?;
+        self.sound_run(&ran, totals.content())?;
         tally.run(&ran);
-
-        let (answer, lent) = self.raw_run([needed - 1, TOTALS_ROOM])?;
-        self.hold("a trace one byte short", NO_ROOM, answer)?;
-        let untouched = lent.iter().all(Lent::untouched);
-        self.hold("too short a trace is left", true, untouched)?;
-        tally.refusal(answer.number);
         Ok(ran)
     }
 
-    /// Runs on both sides with given room for the trace and the totals.
-    pub fn raw_run(&self, rooms: [usize; 2]) -> Result<(Answer, [Lent; 2]), Disagreement> {
-        let file = self.file;
-        let rooms = [("trace", rooms[0]), ("totals", rooms[1])];
-        self.lend("run", rooms, |side, [trace, totals]| {
-            (side.run)(file, trace, totals)
-        })
-    }
-
-    /// What any trace must be, whoever wrote it.
-    fn sound_trace(&self, entries: usize, trace: &[u8], ran: &Ran) -> Verdict {
-        self.hold(
-            "entries in the trace",
-            entries,
-            number_at(&trace[..4]) as usize,
-        )?;
+    /// What any run must be, whoever made it.
+    fn sound_run(&self, ran: &Ran, totals: &[u8]) -> Verdict {
         let known = |outcome: &u8| OUTCOMES.iter().any(|row| row.0 == *outcome);
         self.hold("only known outcomes", true, ran.outcomes.iter().all(known))?;
         let mut pairs = ran.outcomes.iter().zip(&ran.values);
-        let valued = pairs.all(|(&outcome, &value)| outcome == 17 || value == 0);
+        let valued = pairs.all(|(&outcome, &value)| outcome == TASK || value == 0);
         self.hold("only TASK has a value", true, valued)?;
-        let seen = |wanted| {
-            ran.outcomes
-                .iter()
-                .filter(|&&outcome| outcome == wanted)
-                .count() as u32
-        };
-        self.hold("totals", [seen(17), seen(19), seen(7)], ran.totals)
+        let counted = [TASK, ABORT, WAIT].map(|outcome| ran.count(outcome));
+        let given: Vec<u32> = totals.chunks_exact(4).map(number_at).collect();
+        self.hold("totals", &counted[..], &given)
+    }
+
+    /// A run whose trace is lent one byte less than it needs.
+    fn short_run(&self, entries: usize, tally: &mut Tally) -> Verdict {
+        let (answer, lent) = self.raw_run([trace_room(entries) - 1, TOTALS_ROOM])?;
+        self.hold("a trace one byte short", NO_ROOM, answer)?;
+        tally.refusal(answer.number);
+        let untouched = lent.iter().all(Lent::untouched);
+        self.hold("too short a trace is left", true, untouched)
     }
 
     /// Writing what was read gives the file again, and nothing where it
@@ -158,7 +159,6 @@ impl<'a> Case<'a> {
     fn round_trip(&self, tally: &mut Tally) -> Verdict {
         let draft = Draft::of_accepted(self.file);
         let (kinds, operands) = (draft.kinds(), draft.operands());
-        self.arrays_as_read(&kinds, &operands)?;
         let length = self.file.len();
         let spare = (self.pattern % 9) as usize;
         let (answer, file) = self.written(&draft.sizes, &kinds, &operands, length + spare)?;
@@ -168,16 +168,8 @@ impl<'a> Case<'a> {
 
         let (answer, file) = self.written(&draft.sizes, &kinds, &operands, length - 1)?;
         self.hold("a file one byte short", NO_ROOM, answer)?;
-        self.hold("too short a file is left", true, file.untouched())?;
         tally.refusal(answer.number);
-        Ok(())
-    }
-
-    /// The exported functions lend no arrays back, the reference does: they are the file's.
-    fn arrays_as_read(&self, kinds: &[u8], operands: &[u32]) -> Verdict {
-        let read = reference::read(self.file);
-        let same = read.is_ok_and(|read| read.kinds == kinds && read.operands == operands);
-        self.hold("the reference's arrays", true, same)
+        self.hold("too short a file is left", true, file.untouched())
     }
 
     /// Writes on both sides into `room` bytes.
@@ -226,6 +218,17 @@ impl<'a> Case<'a> {
         Err(self.disagreement(what))
     }
 
+    /// The same for bytes, by the first that differs.
+    pub fn same_bytes(&self, what: &str, proved: &[u8], reference: &[u8]) -> Verdict {
+        self.same(&format!("length of {what}"), proved.len(), reference.len())?;
+        for (place, (one, two)) in proved.iter().zip(reference).enumerate() {
+            if one != two {
+                self.same(&format!("{what}, byte {place}"), one, two)?;
+            }
+        }
+        Ok(())
+    }
+
     /// What both sides gave against what it must be.
     pub fn hold<T: PartialEq + Debug>(&self, what: &str, expected: T, given: T) -> Verdict {
         if expected == given {
@@ -234,23 +237,24 @@ impl<'a> Case<'a> {
         Err(self.disagreement(format!("{what}: expected {expected:?}, given {given:?}")))
     }
 
+    /// A text against the lines that it must be, by the first that differs.
+    pub fn hold_lines(&self, what: &str, expected: &str, given: &[u8]) -> Verdict {
+        if given == expected.as_bytes() {
+            return Ok(());
+        }
+        let given = String::from_utf8_lossy(given);
+        let mut lines = given.split_inclusive('\n');
+        for (line, expected) in expected.split_inclusive('\n').enumerate() {
+            let what = format!("{what}, line {}", line + 1);
+            self.hold(&what, Some(expected), lines.next())?;
+        }
+        self.hold(&format!("{what}, a further line"), None, lines.next())
+    }
+
     pub fn disagreement(&self, what: String) -> Disagreement {
         Disagreement {
             what,
             files: vec![self.file.to_vec()],
         }
-    }
-}
-
-fn take_apart(entries: usize, trace: &[u8], totals: &[u8]) -> Ran {
-    let (outcomes, values) = trace[4..trace_room(entries)].split_at(entries);
-    let mut three = [0; 3];
-    for (total, bytes) in three.iter_mut().zip(totals.chunks_exact(4)) {
-        *total = number_at(bytes);
-    }
-    Ran {
-        outcomes: outcomes.to_vec(),
-        values: values.chunks_exact(4).map(number_at).collect(),
-        totals: three,
     }
 }

@@ -14,40 +14,24 @@ pub fn damaged(file: &[u8], random: &mut Random) -> Vec<u8> {
 }
 
 fn damage(file: &mut Vec<u8>, random: &mut Random) {
+    let entries = file.len().saturating_sub(HEADER) / 5;
     match random.below(9) {
-        0 | 1 => flip(file, random),
-        2 => set_byte(file, random),
+        0 if file.len() >= HEADER => set_size(file, random),
+        1 if entries > 0 => set_kind(file, entries, random),
+        2 if entries > 0 => set_operand(file, entries, random),
         3 => cut(file, random),
         4 => extend(file, random),
-        5 => set_size(file, random),
-        6 => set_kind(file, random),
-        7 => set_operand(file, random),
-        _ => drop_inside(file, random),
+        5 if !file.is_empty() => lose_byte(file, random),
+        _ if !file.is_empty() => change_byte(file, random),
+        _ => {}
     }
 }
 
-fn flip(file: &mut [u8], random: &mut Random) {
-    if !file.is_empty() {
-        file[random.place(file.len())] ^= 1 << random.below(8);
-    }
-}
-
-fn set_byte(file: &mut [u8], random: &mut Random) {
-    if !file.is_empty() {
-        file[random.place(file.len())] = random.below(256) as u8;
-    }
-}
-
-/// Mostly a few bytes off the end, where an error by one would hide.
-fn cut(file: &mut Vec<u8>, random: &mut Random) {
-    let few = random.place(8);
-    let any = random.place(file.len() + 1);
-    let length = if random.chance(600) {
-        file.len().saturating_sub(few)
-    } else {
-        any
-    };
-    file.truncate(length);
+fn change_byte(file: &mut [u8], random: &mut Random) {
+    let place = random.place(file.len());
+    let byte = &mut file[place];
+    let (flipped, any) = (*byte ^ (1 << random.below(8)), random.below(256) as u8);
+    *byte = random.pick(&[flipped, flipped, any]);
 }
 
 fn extend(file: &mut Vec<u8>, random: &mut Random) {
@@ -58,59 +42,54 @@ fn extend(file: &mut Vec<u8>, random: &mut Random) {
 
 /// A size at, or one past, an end of its range; or any number.
 fn set_size(file: &mut [u8], random: &mut Random) {
-    if file.len() < HEADER {
-        return;
-    }
     let place = random.place(RANGES.len());
     let (low, high) = RANGES[place];
     let any = random.number();
     let number = random.pick(&[low, low.wrapping_sub(1), high, high + 1, any, u32::MAX]);
-    file[4 * place..4 * place + 4].copy_from_slice(&number.to_le_bytes());
+    put(file, 4 * place, number);
 }
 
-fn set_kind(file: &mut [u8], random: &mut Random) {
-    let entries = file.len().saturating_sub(HEADER) / 5;
-    if entries > 0 {
-        let any = random.below(256) as u8;
-        file[HEADER + random.place(entries)] = random.pick(&[5, 6, 7, 255, any]);
-    }
+fn set_kind(file: &mut [u8], entries: usize, random: &mut Random) {
+    let any = random.below(256) as u8;
+    file[HEADER + random.place(entries)] = random.pick(&[5, 6, 7, 255, any]);
 }
 
-fn set_operand(file: &mut [u8], random: &mut Random) {
-    let entries = file.len().saturating_sub(HEADER) / 5;
-    if entries > 0 {
-        let at = HEADER + entries + 4 * random.place(entries);
-        let any = random.number();
-        let number = random.pick(&[0, 1, 7, 8, u32::MAX, any]);
-        file[at..at + 4].copy_from_slice(&number.to_le_bytes());
-    }
+fn set_operand(file: &mut [u8], entries: usize, random: &mut Random) {
+    let at = HEADER + entries + 4 * random.place(entries);
+    let any = random.number();
+    put(file, at, random.pick(&[0, 1, 7, 8, u32::MAX, any]));
+}
+
+fn put(file: &mut [u8], at: usize, number: u32) {
+    file[at..at + 4].copy_from_slice(&number.to_le_bytes());
+}
+
+/// Mostly a few bytes off the end, where an error by one would hide.
+fn cut(file: &mut Vec<u8>, random: &mut Random) {
+    let few = file.len().saturating_sub(random.place(8));
+    let any = random.place(file.len() + 1);
+    file.truncate(random.pick(&[few, few, any]));
 }
 
 /// A byte lost within the file moves all that follows.
-fn drop_inside(file: &mut Vec<u8>, random: &mut Random) {
-    if !file.is_empty() {
-        let place = random.place(file.len());
-        file.remove(place);
-        if random.chance(500) {
-            file.push(0);
+fn lose_byte(file: &mut Vec<u8>, random: &mut Random) {
+    file.remove(random.place(file.len()));
+    if random.chance(500) {
+        file.push(0);
+    }
+}
+
+/// Every cut of a small file, and each of its bytes set to a few values: those
+/// at the limits of most rules, and its own neighbours.
+pub fn samples(file: &[u8]) -> Vec<Vec<u8>> {
+    let mut samples = Vec::new();
+    for (place, &byte) in file.iter().enumerate() {
+        samples.push(file[..place].to_vec());
+        for value in [0, 1, 7, 255, byte.wrapping_add(1), byte.wrapping_sub(1)] {
+            let mut sample = file.to_vec();
+            sample[place] = value;
+            samples.push(sample);
         }
     }
-}
-
-/// How many files `every` has for a file of this length.
-pub const fn count(length: usize) -> u64 {
-    length as u64 * 256 + length as u64
-}
-
-/// Damage number `number` of all those that set one byte to one value or cut
-/// the file short.
-pub fn every(file: &[u8], number: u64) -> Vec<u8> {
-    let mut file = file.to_vec();
-    let bytes = file.len() as u64 * 256;
-    if number < bytes {
-        file[(number / 256) as usize] = (number % 256) as u8;
-    } else {
-        file.truncate((number - bytes) as usize);
-    }
-    file
+    samples
 }

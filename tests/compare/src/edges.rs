@@ -1,6 +1,6 @@
 //! Files at the edges of every range, each with the answer it must get.
 
-use crate::checks::{Case, Verdict, SIZES_ROOM};
+use crate::checks::{Case, Verdict};
 use crate::schedule::{
     assemble, Draft, Entry, BEGIN_PUT, BEGIN_STEAL, BEGIN_TAKE, CLIENT_STORE, DRAIN, HEADER,
     MOST_ENTRIES, RANGES, THIEF_STEP, THIEVES, WORKER_STEP,
@@ -20,25 +20,27 @@ pub const SHORT: Answer = Answer::refused(2, 0);
 
 /// A file and how it must be read.
 pub struct Edge {
-    pub name: String,
+    name: String,
     pub file: Vec<u8>,
-    pub read: Answer,
+    read: Answer,
 }
 
 impl Edge {
-    fn new(name: String, file: Vec<u8>, read: Answer) -> Self {
+    fn new(name: impl Into<String>, file: Vec<u8>, read: Answer) -> Self {
+        let name = name.into();
         Edge { name, file, read }
     }
 
     pub fn hold(&self, tally: &mut Tally) -> Verdict {
-        self.held(tally).map_err(|found| found.of(&self.name))
-    }
-
-    fn held(&self, tally: &mut Tally) -> Verdict {
         let case = Case::new(&self.file, 3 * self.file.len() as u64 + 1);
-        let read = case.read(SIZES_ROOM)?;
-        case.hold("read", self.read, read)?;
-        case.examine(tally).map(|_| ())
+        let held = case.examine(tally).and_then(|given| {
+            let read = match given {
+                Ok(ran) => Answer::value(ran.outcomes.len() as u32),
+                Err(refusal) => refusal,
+            };
+            case.hold("read", self.read, read)
+        });
+        held.map_err(|found| found.of(&self.name))
     }
 }
 
@@ -46,11 +48,10 @@ impl Edge {
 pub fn files() -> Vec<Edge> {
     let mut edges = too_short();
     edges.extend(sizes());
+    edges.extend(entry_counts());
     edges.extend(lengths());
-    edges.extend(kinds());
-    edges.extend(operands());
+    edges.extend(entries());
     edges.extend(thieves());
-    edges.extend(last_entries());
     edges.extend(several_sizes());
     edges.extend(several_faults());
     edges
@@ -63,125 +64,99 @@ pub fn drains(count: usize) -> Vec<u8> {
 }
 
 fn with_entries(entries: &[Entry]) -> Vec<u8> {
-    Draft {
-        sizes: SIZES,
-        entries: entries.to_vec(),
-    }
-    .bytes()
+    Draft::with(SIZES, entries).bytes()
 }
 
 fn too_short() -> Vec<Edge> {
-    let mut edges = Vec::new();
     let whole = drains(0);
+    let mut edges = Vec::new();
     for length in 0..HEADER {
-        let sound = whole[..length].to_vec();
-        edges.push(Edge::new(format!("{length} bytes"), sound, SHORT));
-        let wild = vec![255; length];
-        edges.push(Edge::new(format!("{length} bytes of 255"), wild, SHORT));
+        let name = format!("{length} bytes");
+        edges.push(Edge::new(&name, whole[..length].to_vec(), SHORT));
+        edges.push(Edge::new(name + " of 255", vec![255; length], SHORT));
     }
-    edges.push(Edge::new("28 bytes".into(), whole, Answer::value(0)));
+    edges.push(Edge::new("28 bytes", whole, Answer::value(0)));
     edges
 }
 
-/// Each size at both ends of its range, past them, and far outside.
+/// Both ends of a size's range, past them, and far outside; and whether each
+/// number is in range.
+fn around(place: usize) -> Vec<(u32, bool)> {
+    let (low, high) = RANGES[place];
+    let mut numbers = vec![low, high, high + 1, 0, 1 << 31, low.wrapping_sub(1)];
+    numbers.extend(WIDE.map(|wide| low.wrapping_add(wide)));
+    numbers.extend(WIDE);
+    let within = |number| (number, (low..=high).contains(&number));
+    numbers.into_iter().map(within).collect()
+}
+
 fn sizes() -> Vec<Edge> {
     let mut edges = Vec::new();
-    for (place, (low, high)) in RANGES.into_iter().enumerate() {
-        let mut numbers = vec![low, high, high + 1, 0, 1 << 31, low.wrapping_sub(1)];
-        numbers.extend(WIDE.map(|wide| low.wrapping_add(wide)));
-        numbers.extend(WIDE);
-        for number in numbers {
-            let within = (low..=high).contains(&number);
+    for place in 0..6 {
+        for (number, within) in around(place) {
+            let entries = [(BEGIN_PUT, 9), (BEGIN_STEAL, 0), (THIEF_STEP, 0)];
+            let mut draft = Draft::with(SIZES, &entries);
+            draft.sizes[place] = number;
+            let refused = Answer::refused(1, place as u32);
+            let read = if within { Answer::value(3) } else { refused };
             let name = format!("size {place} is {number}");
-            edges.push(if place < 6 {
-                one_size(name, place, number, within)
-            } else {
-                entry_count(name, number, within)
-            });
+            edges.push(Edge::new(name, draft.bytes(), read));
         }
     }
     edges
 }
 
-fn one_size(name: String, place: usize, number: u32, within: bool) -> Edge {
-    let mut draft = Draft::new(SIZES);
-    draft.sizes[place] = number;
-    draft.entries = vec![(BEGIN_PUT, 9), (BEGIN_STEAL, 0), (THIEF_STEP, 0)];
-    let refused = Answer::refused(1, place as u32);
-    let read = if within { Answer::value(3) } else { refused };
-    Edge::new(name, draft.bytes(), read)
-}
-
 /// A count has its array behind it where that is of a bearable length, so that
 /// only the count can be at fault.
-fn entry_count(name: String, number: u32, within: bool) -> Edge {
-    let there = (number as usize).min(MOST_ENTRIES + 1);
-    let mut file = drains(there);
-    file[24..28].copy_from_slice(&number.to_le_bytes());
-    let refused = Answer::refused(1, 6);
-    let read = if within {
-        Answer::value(number)
-    } else {
-        refused
-    };
-    Edge::new(name, file, read)
+fn entry_counts() -> Vec<Edge> {
+    let mut edges = Vec::new();
+    for (number, within) in around(6) {
+        let mut file = drains((number as usize).min(MOST_ENTRIES + 1));
+        file[24..28].copy_from_slice(&number.to_le_bytes());
+        let (fits, refused) = (Answer::value(number), Answer::refused(1, 6));
+        let read = if within { fits } else { refused };
+        edges.push(Edge::new(format!("{number} entries"), file, read));
+    }
+    edges
 }
 
 /// Lengths that miss 28 + 5 × entries, and those that hit it.
 fn lengths() -> Vec<Edge> {
     let mut edges = Vec::new();
     for count in [0, 1, 3, 4, MOST_ENTRIES] {
-        let exact = drains(count);
-        for change in [-5_isize, -4, -1, 0, 1, 4, 5, 256, 65_536] {
-            let length = exact.len().saturating_add_signed(change);
+        let exact = drains(count).len();
+        for change in [-5, -4, -1, 0, 1, 4, 5, 256, 65_536] {
+            let length = exact.saturating_add_signed(change);
             if length < HEADER {
                 continue;
             }
-            let mut file = exact.clone();
+            let mut file = drains(count);
             file.resize(length, 0);
             let fits = Answer::value(count as u32);
             let read = if change == 0 { fits } else { SHORT };
-            edges.push(Edge::new(
-                format!("{count} entries, {length} bytes"),
-                file,
-                read,
-            ));
+            let name = format!("{count} entries, {length} bytes");
+            edges.push(Edge::new(name, file, read));
         }
     }
     edges
 }
 
-/// Every kind byte, at the first, a middle and the last entry.
-fn kinds() -> Vec<Edge> {
-    let mut edges = Vec::new();
-    for kind in 0..=255 {
-        for place in 0..ENTRIES.len() {
-            let mut entries = ENTRIES;
-            entries[place] = (kind, 0);
-            let refused = Answer::refused(3, place as u32);
-            let read = if kind <= 6 { Answer::value(3) } else { refused };
-            let name = format!("kind {kind} at entry {place}");
-            edges.push(Edge::new(name, with_entries(&entries), read));
-        }
-    }
-    edges
-}
-
-/// Operands of the worker's kinds and of a drain.
-fn operands() -> Vec<Edge> {
-    let mut edges = Vec::new();
+/// Every kind byte, and operands of the worker's kinds and of a drain, at the
+/// first, a middle and the last entry; then the last entry of the largest file.
+fn entries() -> Vec<Edge> {
+    let mut entries: Vec<Entry> = (0..=255).map(|kind| (kind, 0)).collect();
     for kind in [DRAIN, CLIENT_STORE, BEGIN_PUT, BEGIN_TAKE, WORKER_STEP] {
-        for operand in WIDE.into_iter().chain([0, 255, 1 << 31]) {
-            for place in 0..ENTRIES.len() {
-                let mut entries = ENTRIES;
-                entries[place] = (kind, operand);
-                let allowed = kind == BEGIN_PUT || operand == 0;
-                let refused = Answer::refused(4, place as u32);
-                let read = if allowed { Answer::value(3) } else { refused };
-                let name = format!("kind {kind} with operand {operand} at entry {place}");
-                edges.push(Edge::new(name, with_entries(&entries), read));
-            }
-        }
+        let operands = WIDE.into_iter().chain([255, 1 << 31]);
+        entries.extend(operands.map(|operand| (kind, operand)));
+    }
+    let mut edges = Vec::new();
+    for entry in entries {
+        edges.extend((0..3).map(|place| one_entry(2, &ENTRIES, place, entry)));
+    }
+    let largest = vec![(DRAIN, 0); MOST_ENTRIES];
+    for kind in 0..=8 {
+        let last = |operand| one_entry(2, &largest, MOST_ENTRIES - 1, (kind, operand));
+        edges.extend((0..=2).map(last));
     }
     edges
 }
@@ -193,43 +168,32 @@ fn thieves() -> Vec<Edge> {
         let near = [0, thieves - 1, thieves, thieves + 1, 8, 255];
         for thief in near.into_iter().chain(WIDE) {
             for kind in [BEGIN_STEAL, THIEF_STEP] {
-                let mut draft = Draft::new(SIZES);
-                draft.sizes[THIEVES] = thieves;
-                draft.entries = vec![(BEGIN_STEAL, 0), (kind, thief)];
-                let refused = Answer::refused(4, 1);
-                let within = thief < thieves;
-                let read = if within { Answer::value(2) } else { refused };
-                let name = format!("kind {kind} by thief {thief} of {thieves}");
-                edges.push(Edge::new(name, draft.bytes(), read));
+                let sound = [(BEGIN_STEAL, 0); 2];
+                edges.push(one_entry(thieves, &sound, 1, (kind, thief)));
             }
         }
     }
     edges
 }
 
-/// The last entry of the largest file, sound and not.
-fn last_entries() -> Vec<Edge> {
-    let most = MOST_ENTRIES as u32;
-    let mut edges = Vec::new();
-    for kind in 0..=8 {
-        for operand in [0, 1, 2] {
-            let mut entries = vec![(DRAIN, 0); MOST_ENTRIES];
-            entries[MOST_ENTRIES - 1] = (kind, operand);
-            let allowed = match kind {
-                BEGIN_PUT => true,
-                BEGIN_STEAL | THIEF_STEP => operand < SIZES[THIEVES],
-                _ => operand == 0,
-            };
-            let read = match kind {
-                7.. => Answer::refused(3, most - 1),
-                _ if allowed => Answer::value(most),
-                _ => Answer::refused(4, most - 1),
-            };
-            let name = format!("last of {most} entries is {kind} with {operand}");
-            edges.push(Edge::new(name, with_entries(&entries), read));
-        }
-    }
-    edges
+/// Sound entries with another in the place of one of them.
+fn one_entry(thieves: u32, sound: &[Entry], place: usize, entry: Entry) -> Edge {
+    let mut draft = Draft::with(SIZES, sound);
+    draft.sizes[THIEVES] = thieves;
+    draft.entries[place] = entry;
+    let (kind, operand) = entry;
+    let allowed = match kind {
+        BEGIN_PUT => true,
+        BEGIN_STEAL | THIEF_STEP => operand < thieves,
+        _ => operand == 0,
+    };
+    let read = match kind {
+        7.. => Answer::refused(3, place as u32),
+        _ if allowed => Answer::value(sound.len() as u32),
+        _ => Answer::refused(4, place as u32),
+    };
+    let name = format!("kind {kind} with {operand} at entry {place}, {thieves} thieves");
+    Edge::new(name, draft.bytes(), read)
 }
 
 /// From each place on every size is out of range: the lowest place is told,
@@ -254,17 +218,16 @@ fn several_sizes() -> Vec<Edge> {
 /// Files with more than one fault in their entries or their length.
 fn several_faults() -> Vec<Edge> {
     let entries = |name: &str, entries: &[Entry], number, place| {
-        let file = with_entries(entries);
-        Edge::new(name.into(), file, Answer::refused(number, place))
+        Edge::new(name, with_entries(entries), Answer::refused(number, place))
     };
     let sound = (DRAIN, 0);
     let mut short_wild = with_entries(&[(255, 255), (255, 255)]);
+    let mut long_wild = short_wild.clone();
     short_wild.pop();
-    let mut long_wild = with_entries(&[(255, 255), (255, 255)]);
     long_wild.push(0);
     vec![
-        Edge::new("a byte missing, wild entries".into(), short_wild, SHORT),
-        Edge::new("a byte too many, wild entries".into(), long_wild, SHORT),
+        Edge::new("a byte missing, wild entries", short_wild, SHORT),
+        Edge::new("a byte too many, wild entries", long_wild, SHORT),
         entries("kind before operand in one entry", &[sound, (7, 1)], 3, 1),
         entries("operand fault first", &[sound, (DRAIN, 1), (7, 0)], 4, 1),
         entries("kind fault first", &[sound, (7, 0), (DRAIN, 1)], 3, 1),

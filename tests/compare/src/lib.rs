@@ -1,19 +1,23 @@
 //! Comparison of two implementations of the rehearsal bench: the one behind
 //! the exported functions of a static library and an independent one.
 //!
-//! `compare` takes files through both and says whether they agree; `bench`
-//! takes the same files through both and says how long each needs.
+//! `compare` takes files through both, and machines through single functions
+//! of both, and says whether they agree; `bench` takes the same files through
+//! both and says how long each needs.
 
+pub mod arrays;
 pub mod campaign;
 pub mod checks;
 pub mod damage;
-pub mod ffi;
 pub mod edges;
-pub mod examples;
+pub mod ffi;
 pub mod generate;
+pub mod image;
 pub mod lent;
 pub mod likeness;
-pub mod lines;
+pub mod limits;
+pub mod machines;
+pub mod operations;
 pub mod plain;
 pub mod program;
 pub mod random;
@@ -23,7 +27,8 @@ pub mod rooms;
 pub mod schedule;
 pub mod script;
 pub mod sides;
-pub mod sketch;
+pub mod single;
 pub mod spread;
+pub mod steps;
 pub mod tally;
 pub mod writer;

@@ -5,50 +5,90 @@ use crate::checks::{Case, Ran, Verdict};
 use crate::damage::damaged;
 use crate::random::Random;
 use crate::schedule::{
-    Draft, Entry, BEGIN_PUT, BEGIN_STEAL, BEGIN_TAKE, BUFFER, CLIENT_STORE, DRAIN, MARGIN,
-    MOST_ENTRIES, RANGES, SLOTS, SPACING, START, THIEF_STEP, WORKER_STEP,
+    Draft, Entry, BEGIN_PUT, BEGIN_STEAL, BEGIN_TAKE, BUFFER, CLIENT_STORE, EARLY, PLACE, RANGES,
+    THIEF_STEP, WAIT,
 };
-use crate::sides::{Answer, PROVED, REFERENCE};
+use crate::sides::{Answer, PROVED, REFERENCE, SIZES_ROOM};
 use crate::tally::{Count, Tally};
 
 const ALIKE: Answer = Answer::value(1);
 const NOT_ALIKE: Answer = Answer::value(0);
 
-/// The file beside itself and beside two others made from it.
+/// The file beside itself and beside another made from it.
 pub fn examine(file: &[u8], ran: &Ran, random: &mut Random, tally: &mut Tally) -> Verdict {
-    let draft = Draft::of_accepted(file);
     ask(file, file, Some(ALIKE), tally)?;
-    for _ in 0..2 {
-        let (other, expected) = match random.below(7) {
-            0 => (swapped(&draft, random), Some(ALIKE)),
-            1 => (swept(&draft, ran), Some(ALIKE)),
-            2 => (padded(&draft, random), Some(ALIKE)),
-            3 => (resized(&draft, random), Some(NOT_ALIKE)),
-            4 => (disturbed(&draft, random), None),
-            5 => (cut_short(&draft, random), None),
-            _ => return with_damage(file, random, tally),
-        };
-        ask(file, &other.bytes(), expected, tally)?;
-    }
-    Ok(())
+    let draft = Draft::of_accepted(file);
+    let (other, expected) = match random.below(6) {
+        0 => (swapped(&draft, random), Some(ALIKE)),
+        1 => (swept(&draft, ran), Some(ALIKE)),
+        2 | 3 => (disturbed(&draft, random), None),
+        4 => {
+            let place = random.place(6);
+            let number = random.pick(&other_sizes(&draft, place));
+            return hold_resized(&resized(&draft, place, number), tally);
+        }
+        _ => return with_damage(file, random, tally),
+    };
+    let other = other.bytes();
+    ask(file, &other, expected, tally)?;
+    ask(&other, file, expected, tally)
 }
 
-/// A damaged file on either side, or on both: the first file's refusal is told
-/// first, then the second's.
+/// A damaged file on either side, or on both.
 pub fn with_damage(file: &[u8], random: &mut Random, tally: &mut Tally) -> Verdict {
     let other = damaged(file, random);
     let third = damaged(file, random);
     for (first, second) in [(file, &other[..]), (&other, file), (&other, &third)] {
-        let refusals = [refusal(first), refusal(second)];
-        let expected = refusals.into_iter().flatten().next();
-        ask(first, second, expected, tally)?;
+        ask(first, second, refusal(first, second), tally)?;
     }
     Ok(())
 }
 
-fn refusal(file: &[u8]) -> Option<Answer> {
-    let read = (PROVED.read)(file, &mut []);
-    read.is_refused().then_some(read)
+/// A file, and the same with another size, which may be out of range.
+pub type Resized = [Vec<u8>; 2];
+
+/// The schedule beside itself with each size changed in turn.
+pub fn all_resized(draft: &Draft) -> Vec<Resized> {
+    let mut pairs = Vec::new();
+    for place in 0..6 {
+        for number in other_sizes(draft, place) {
+            pairs.push(resized(draft, place, number));
+        }
+    }
+    pairs
+}
+
+/// With another size a file is never alike, though most run the same.
+pub fn hold_resized([file, other]: &Resized, tally: &mut Tally) -> Verdict {
+    for (first, second) in [(file, other), (other, file)] {
+        let expected = refusal(first, second).unwrap_or(NOT_ALIKE);
+        ask(first, second, Some(expected), tally)?;
+    }
+    Ok(())
+}
+
+fn resized(draft: &Draft, place: usize, number: u32) -> Resized {
+    let mut other = draft.clone();
+    other.sizes[place] = number;
+    [draft.bytes(), other.bytes()]
+}
+
+/// Both ends of a size's range, one past them, and its neighbours. The buffer
+/// size is for the margin: written out, it is another size than 0, though both
+/// run alike.
+fn other_sizes(draft: &Draft, place: usize) -> Vec<u32> {
+    let (low, high) = RANGES[place];
+    let size = draft.sizes[place];
+    let mut numbers = vec![low, high, low.wrapping_sub(1), high + 1];
+    numbers.extend([size.wrapping_sub(1), size + 1, draft.sizes[BUFFER]]);
+    numbers.retain(|&number| number != size);
+    numbers
+}
+
+/// The first file's refusal is told first, then the second's.
+fn refusal(first: &[u8], second: &[u8]) -> Option<Answer> {
+    let reads = [first, second].map(|file| (PROVED.read)(file, &mut [0; SIZES_ROOM]));
+    reads.into_iter().find(|read| read.is_refused())
 }
 
 /// Asks both sides, and holds the answer where it is known.
@@ -62,9 +102,9 @@ fn ask(first: &[u8], second: &[u8], expected: Option<Answer>, tally: &mut Tally)
         found.files.push(second.to_vec());
         found
     })?;
-    tally.count(match given.number {
-        0 if given == ALIKE => Count::Alike,
-        0 => Count::NotAlike,
+    tally.count(match given {
+        ALIKE => Count::Alike,
+        NOT_ALIKE => Count::NotAlike,
         _ => Count::AlikeRefused,
     });
     Ok(())
@@ -98,78 +138,29 @@ fn independent(one: Entry, two: Entry) -> bool {
 
 /// Without the entries that left the machine as it was.
 fn swept(draft: &Draft, ran: &Ran) -> Draft {
-    let mut other = Draft::new(draft.sizes);
-    let pairs = draft.entries.iter().zip(&ran.outcomes);
-    let kept = pairs.filter(|(_, outcome)| !left_alone(**outcome));
-    other.entries.extend(kept.map(|(entry, _)| *entry));
-    other
-}
-
-/// With some more entries that leave the machine as it is.
-fn padded(draft: &Draft, random: &mut Random) -> Draft {
     let mut other = draft.clone();
-    for _ in 0..4 {
-        if other.entries.len() == MOST_ENTRIES {
-            break;
-        }
-        let place = random.place(other.entries.len() + 1);
-        let kind = random.pick(&[DRAIN, CLIENT_STORE, BEGIN_TAKE, WORKER_STEP, THIEF_STEP]);
-        other.entries.insert(place, (kind, 0));
-        if !left_alone(outcome_at(&other, place)) {
-            other.entries.remove(place);
-        }
-    }
+    let mut outcomes = ran.outcomes.iter();
+    let idle = |outcome| matches!(outcome, Some(&(PLACE | EARLY | WAIT)));
+    other.entries.retain(|_| !idle(outcomes.next()));
     other
 }
 
-fn left_alone(outcome: u8) -> bool {
-    matches!(outcome, 5..=7)
-}
-
-fn outcome_at(draft: &Draft, place: usize) -> u8 {
-    let mut trace = vec![0; 4 + 5 * draft.entries.len()];
-    (REFERENCE.run)(&draft.bytes(), &mut trace, &mut []);
-    trace[4 + place]
-}
-
-/// With another size. A margin of 0 is not the same as the buffer size written
-/// out, though both run alike.
-fn resized(draft: &Draft, random: &mut Random) -> Draft {
-    let mut other = draft.clone();
-    let place = random.pick(&[SLOTS, BUFFER, SPACING, MARGIN, MARGIN, START]);
-    let (low, high) = RANGES[place];
-    let size = &mut other.sizes[place];
-    *size = match *size {
-        0 if place == MARGIN => draft.sizes[BUFFER],
-        written if place == MARGIN && written == draft.sizes[BUFFER] => 0,
-        written if written < high => written + 1,
-        _ => low,
-    };
-    other
-}
-
-/// Something changed that may or may not be noticed.
+/// Something changed that may or may not be noticed: entries changed about,
+/// left out, or left out at the end; another task.
 fn disturbed(draft: &Draft, random: &mut Random) -> Draft {
     let mut other = draft.clone();
-    if other.entries.len() < 2 {
+    let length = other.entries.len();
+    if length < 2 {
         return other;
     }
-    let place = random.between(1, other.entries.len() as u32 - 1) as usize;
-    if random.chance(700) {
-        other.entries.swap(place - 1, place);
-    } else if other.entries[place].0 == BEGIN_PUT {
-        other.entries[place].1 ^= 1;
-    } else {
-        other.entries.remove(place);
+    let place = 1 + random.place(length - 1);
+    match random.below(4) {
+        0 => other
+            .entries
+            .truncate(length.saturating_sub(random.place(8))),
+        1 if other.entries[place].0 == BEGIN_PUT => other.entries[place].1 ^= 1,
+        1 => drop(other.entries.remove(place)),
+        _ => other.entries.swap(place - 1, place),
     }
-    other
-}
-
-/// The last entries left out: one list of answers begins with the other.
-fn cut_short(draft: &Draft, random: &mut Random) -> Draft {
-    let mut other = draft.clone();
-    let dropped = random.place(8);
-    let left = other.entries.len().saturating_sub(dropped);
-    other.entries.truncate(left);
     other
 }

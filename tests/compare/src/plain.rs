@@ -1,18 +1,20 @@
 //! The plain queue beside the machine: nothing goes wrong with enough margin,
 //! and exactly one block is given twice with one less.
 
+use reference::needed_margin;
 use reference::plain_queue::{judge, Verdict as Judgement};
 
-use crate::checks::{Case, Disagreement, Ran, Verdict};
+use crate::checks::{Case, Ran, Verdict};
+use crate::random::Random;
 use crate::schedule::{
-    needed_margin, Draft, BUFFER, LAST_INDEX, MARGIN, SPACING, START, THIEF_STEP, THIEVES,
+    Draft, ABORT, BUFFER, FULL, LAST_INDEX, MARGIN, SPACING, START, TASK, THIEF_STEP, THIEVES,
 };
-use crate::script::{Script, ABORT, FULL, TASK};
+use crate::script::Script;
 use crate::tally::{Count, Tally};
 
 /// Judges a run of an accepted file and holds it where the margin is enough.
 pub fn examine(file: &[u8], ran: &Ran, tally: &mut Tally) -> Verdict {
-    let judgement = judged(file)?;
+    let judgement = judged(file);
     let draft = Draft::of_accepted(file);
     if draft.has_enough_margin() {
         count_enough(&draft, ran, tally);
@@ -27,114 +29,84 @@ pub fn examine(file: &[u8], ran: &Ran, tally: &mut Tally) -> Verdict {
 
 /// What the runs judged with enough margin went through.
 fn count_enough(draft: &Draft, ran: &Ran, tally: &mut Tally) {
-    tally.count(Count::JudgedEnough);
-    if draft.sizes[THIEVES] > 1 {
-        tally.count(Count::EnoughSeveralThieves);
-    }
     let mut steps = draft.entries.iter().zip(&ran.outcomes);
-    if steps.any(|(entry, outcome)| entry.0 == THIEF_STEP && *outcome == TASK) {
-        tally.count(Count::EnoughStolen);
-    }
-    if ran.outcomes.contains(&FULL) {
-        tally.count(Count::EnoughFull);
-    }
-    if draft.sizes[START] > LAST_INDEX - 300 {
-        tally.count(Count::EnoughNearLastIndex);
+    let stolen = steps.any(|(entry, outcome)| entry.0 == THIEF_STEP && *outcome == TASK);
+    for (count, seen) in [
+        (Count::JudgedEnough, true),
+        (Count::EnoughSeveralThieves, draft.sizes[THIEVES] > 1),
+        (Count::EnoughStolen, stolen),
+        (Count::EnoughFull, ran.outcomes.contains(&FULL)),
+        (
+            Count::EnoughNearLastIndex,
+            draft.sizes[START] > LAST_INDEX - 300,
+        ),
+    ] {
+        if seen {
+            tally.count(count);
+        }
     }
 }
 
-fn judged(file: &[u8]) -> Result<Judgement, Disagreement> {
-    judge(file).map_err(|refusal| {
-        let what = format!("the judge refuses with number {}", refusal.number);
-        Case::new(file, 0).disagreement(what)
-    })
+fn judged(file: &[u8]) -> Judgement {
+    judge(file).expect("the file is accepted")
 }
 
 fn clean(file: &[u8], judgement: &Judgement) -> Verdict {
     let case = Case::new(file, 0);
-    if let Some(difference) = &judgement.first_difference {
-        let (entry, why) = (difference.entry, difference.why);
-        let what = format!("the plain queue differs at entry {entry}: {why}");
-        return Err(case.disagreement(what));
-    }
+    let difference = judgement.first_difference;
+    let difference = difference.map(|first| (first.entry, first.why));
+    case.hold("entry where the plain queue differs", None, difference)?;
     case.hold("blocks given twice", 0, judgement.given_twice)?;
     case.hold("blocks lost", 0, judgement.lost)
 }
 
-/// Sizes with a margin below the needed one, which must do harm.
-#[derive(Clone, Copy)]
-pub struct Witness {
-    sizes: [u32; 6],
-}
-
-/// All of them: every buffer and spacing, every margin from 1 to one below the
-/// needed one, with few, some and most slots and thieves.
-pub fn witnesses() -> Vec<Witness> {
+/// Sizes with too small a margin: for every buffer and spacing that need more
+/// than 1, the margin one short and, now and then, another one.
+pub fn short_margins(seed: u64) -> Vec<[u32; 6]> {
+    let mut random = Random::new(seed);
     let mut all = Vec::new();
-    for buffer in 1..=64 {
-        for spacing in 0..=63 {
+    for buffer in 2..=64 {
+        for spacing in 0..buffer - 1 {
             let needed = needed_margin(buffer, spacing);
-            for margin in 1..needed {
-                let some_thieves = 1 + (buffer + spacing + margin) % 8;
-                let some_slots = (needed + 1 + margin).min(256);
-                for (slots, thieves) in [(needed + 1, 1), (some_slots, some_thieves), (256, 8)] {
-                    let sizes = [slots, buffer, spacing, margin, thieves, 0];
-                    all.push(Witness { sizes });
-                }
+            let any = random.between(1, needed - 1);
+            let margins = [needed - 1, any];
+            for &margin in &margins[..1 + usize::from(random.chance(250))] {
+                let some = random.between(needed + 1, 256);
+                let slots = random.pick(&[needed + 1, some, 256]);
+                all.push([slots, buffer, spacing, margin, random.between(1, 8), 0]);
             }
         }
     }
     all
 }
 
-impl Witness {
-    /// Harm with this margin, none with the needed one.
-    pub fn hold(&self, tally: &mut Tally) -> Verdict {
-        self.harm(tally)?;
-        self.no_harm(tally)
-    }
+/// Harm with this margin, none with the needed one.
+pub fn hold_short(sizes: &[u32; 6], tally: &mut Tally) -> Verdict {
+    let script = taken_unseen(sizes).steal(0, TASK, 1);
+    script.follow(tally)?;
+    let file = script.draft.bytes();
+    let judgement = judged(&file);
+    let case = Case::new(&file, 0);
+    case.hold("blocks given twice", 1, judgement.given_twice)?;
+    let differs = judgement.first_difference.is_some();
+    case.hold("a difference from the plain queue", true, differs)?;
 
-    /// The takes empty the queue unseen, and the thief takes the oldest again.
-    fn harm(&self, tally: &mut Tally) -> Verdict {
-        let script = self.taken_unseen().steal(0, TASK, 1);
-        let judgement = followed(&script, tally)?;
-        let file = script.draft.bytes();
-        let case = Case::new(&file, 0);
-        case.hold("blocks given twice", 1, judgement.given_twice)?;
-        case.hold(
-            "some difference",
-            true,
-            judgement.first_difference.is_some(),
-        )
-    }
-
-    /// The same entries under the needed margin: the thief aborts.
-    fn no_harm(&self, tally: &mut Tally) -> Verdict {
-        let mut script = self.taken_unseen().steal(0, ABORT, 0);
-        script.draft.sizes[MARGIN] = needed_margin(self.sizes[BUFFER], self.sizes[SPACING]);
-        let judgement = followed(&script, tally)?;
-        clean(&script.draft.bytes(), &judgement)
-    }
-
-    /// Puts of 1 to margin + 1 in memory, all taken with no store drained.
-    fn taken_unseen(&self) -> Script {
-        let (spacing, margin) = (self.sizes[SPACING], self.sizes[MARGIN]);
-        let mut script = Script::new(self.sizes);
-        for task in 1..=margin + 1 {
-            script = script.put(task).drains(2);
-        }
-        for task in (1..=margin + 1).rev() {
-            script = script.take(task);
-            if task > 1 {
-                script = script.client_stores(spacing);
-            }
-        }
-        script
-    }
+    let mut script = taken_unseen(sizes).steal(0, ABORT, 0);
+    script.draft.sizes[MARGIN] = needed_margin(sizes[BUFFER], sizes[SPACING]);
+    script.follow(tally)?;
+    let file = script.draft.bytes();
+    clean(&file, &judged(&file))
 }
 
-/// Follows the script and has its run judged.
-fn followed(script: &Script, tally: &mut Tally) -> Result<Judgement, Disagreement> {
-    script.follow(tally)?;
-    judged(&script.draft.bytes())
+/// Puts of 1 to margin + 1 in memory, all taken with no store drained.
+fn taken_unseen(sizes: &[u32; 6]) -> Script {
+    let (spacing, margin) = (sizes[SPACING], sizes[MARGIN]);
+    let mut script = Script::new(*sizes);
+    for task in 1..=margin + 1 {
+        script = script.put(task).drains(2);
+    }
+    for task in (2..=margin + 1).rev() {
+        script = script.take(task).client_stores(spacing);
+    }
+    script.take(1)
 }

@@ -8,9 +8,10 @@ use std::time::Duration;
 
 use crate::checks::{Case, Verdict};
 use crate::damage::damaged;
+use crate::edges::drains;
 use crate::generate;
 use crate::random::Random;
-use crate::schedule::{assemble, HEADER, MOST_ENTRIES};
+use crate::schedule::{HEADER, MOST_ENTRIES};
 
 pub struct Program {
     path: PathBuf,
@@ -26,14 +27,18 @@ pub enum Feed {
 
 impl Program {
     pub fn new(path: &Path) -> Self {
-        Program {
-            path: path.to_path_buf(),
-        }
+        let path = path.to_path_buf();
+        Program { path }
     }
 
     /// Holds the program to the reference's lines.
     pub fn compare(&self, file: &[u8], feed: Feed) -> Verdict {
         self.hold(file, feed, &reference::lines(file))
+    }
+
+    pub fn compare_both(&self, file: &[u8]) -> Verdict {
+        self.compare(file, Feed::AtOnce)?;
+        self.compare(file, Feed::InPieces)
     }
 
     /// Holds the program to given lines.
@@ -42,14 +47,7 @@ impl Program {
         let printed = self.printed(file, feed).map_err(|error| {
             case.disagreement(format!("program {}: {error}", self.path.display()))
         })?;
-        if printed == expected.as_bytes() {
-            return Ok(());
-        }
-        let printed = String::from_utf8_lossy(&printed).into_owned();
-        let (line, given, wanted) = first_difference(&printed, expected);
-        Err(case.disagreement(format!(
-            "program, line {line}: printed {given:?}, expected {wanted:?}"
-        )))
+        case.hold_lines("program", expected, &printed)
     }
 
     fn printed(&self, file: &[u8], feed: Feed) -> io::Result<Vec<u8>> {
@@ -95,29 +93,10 @@ fn feed_all(mut input: impl Write, file: &[u8], feed: Feed) -> io::Result<()> {
     Ok(())
 }
 
-fn first_difference<'a>(printed: &'a str, expected: &'a str) -> (usize, &'a str, &'a str) {
-    let mut given = printed.split_inclusive('\n');
-    let mut wanted = expected.split_inclusive('\n');
-    let mut line = 1;
-    loop {
-        let pair = (given.next(), wanted.next());
-        if pair.0 != pair.1 || pair.0.is_none() {
-            return (line, pair.0.unwrap_or(""), pair.1.unwrap_or(""));
-        }
-        line += 1;
-    }
-}
-
 /// The largest file, and inputs longer than any file.
 pub fn overlong() -> Vec<Vec<u8>> {
-    let sizes = [4, 2, 0, 1, 2, 0];
-    let largest = HEADER + 5 * MOST_ENTRIES;
-    let most = MOST_ENTRIES as u32;
-    let of_length = |entries, length| {
-        let mut file = assemble(&sizes, entries, &[], &[]);
-        file.resize(length, 0);
-        file
-    };
+    let most = drains(MOST_ENTRIES);
+    let largest = most.len();
     let mut files = Vec::new();
     for length in [
         largest - 1,
@@ -129,14 +108,16 @@ pub fn overlong() -> Vec<Vec<u8>> {
         100_000,
         1_000_000,
     ] {
-        files.push(of_length(most, length));
-        files.push(of_length(most + 1, length));
+        for mut file in [drains(0), most.clone(), drains(MOST_ENTRIES + 1)] {
+            file.resize(length, 0);
+            files.push(file);
+        }
         files.push(vec![255; length]);
-        files.push(of_length(0, length));
     }
     // Kinds after the header that no reader may look at before the length.
-    let mut wild = of_length(most, largest + 1);
+    let mut wild = most;
     wild[HEADER..].fill(255);
+    wild.push(255);
     files.push(wild);
     files
 }

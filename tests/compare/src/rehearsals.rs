@@ -1,16 +1,31 @@
-//! Rehearsals M1 to M9 and the program's example, with their answers.
+//! The rehearsals: M1 to M9, the paper's example, and stories that a planner
+//! meets, each told step by step with what every step must answer. All but M1
+//! are files of `examples/` too.
 
 use crate::checks::{Case, Verdict};
 use crate::schedule::{
-    needed_margin, BEGIN_PUT, BEGIN_STEAL, BEGIN_TAKE, DRAIN, LAST_INDEX, THIEF_STEP, WORKER_STEP,
+    ABORT, BEGIN_PUT, BEGIN_STEAL, BEGIN_TAKE, EARLY, END, FULL, LAST_INDEX, STORED, TASK,
+    THIEF_STEP, WAIT,
 };
-use crate::script::{Script, ABORT, EARLY, END, FULL, STORED, TASK, WAIT};
+use crate::script::Script;
 use crate::sides::{PROVED, REFERENCE};
 use crate::tally::Tally;
 
 pub struct Rehearsal {
+    /// The name of its file, without the ending.
     pub name: &'static str,
     pub script: Script,
+}
+
+impl Rehearsal {
+    pub fn file_name(&self) -> String {
+        format!("{}.schedule", self.name)
+    }
+
+    pub fn hold(&self, tally: &mut Tally) -> Verdict {
+        let held = self.script.follow(tally);
+        held.map_err(|found| found.of(self.name))
+    }
 }
 
 /// What the program prints for the example.
@@ -25,45 +40,51 @@ pub const EXAMPLE_LINES: &str = "\
 given 0 aborts 0 waits 1
 ";
 
+/// M1: buffer, spacing and the needed margin.
+const MARGINS: [(u32, u32, u32); 3] = [(33, 1, 17), (32, 0, 32), (64, 63, 1)];
+
 /// Every rehearsal that is a schedule.
 pub fn all() -> Vec<Rehearsal> {
-    let named = |name, script| Rehearsal { name, script };
-    vec![
-        named("example", example()),
-        named("M2", m2()),
-        named("M3", m3()),
-        named("M4", m4()),
-        named("M5 after step 3", m5_after_step_3()),
-        named("M5 after step 4", m5_after_step_4()),
-        named("M6", m6()),
-        named("M7 at the last index", m7_at_the_end()),
-        named("M7 one before it", m7_before_the_end()),
-        named("M8", m8()),
-        named("M9", m9()),
-    ]
+    let named = |(name, script)| Rehearsal { name, script };
+    let told = [
+        ("paper-example", example()),
+        ("m2-given-twice", two_taken_unseen(1).steal(0, TASK, 11)),
+        ("m3-enough-margin", m3()),
+        ("m4-full", m4()),
+        ("m5-thief-in-between", m5_before_its_load()),
+        ("m5-thief-aborts", m5_after_its_load()),
+        ("m6-tail-below-zero", m6()),
+        ("m7-end", start_at(LAST_INDEX).put_ends(1, END)),
+        (
+            "m7-stored-then-end",
+            start_at(LAST_INDEX - 1).put(1).put_ends(2, END),
+        ),
+        ("m8-take-too-early", m8()),
+        ("m9-worker-waits", m9()),
+        ("story-double-hand-out", both_taken(1).steal(0, TASK, 101)),
+        (
+            "story-abort-saves-a-block",
+            both_taken(2).steal(0, ABORT, 0),
+        ),
+        ("story-lock-wait", lock_wait()),
+        ("story-full", full()),
+        ("story-end", end()),
+        ("story-refused", refused()),
+    ];
+    told.map(named).into()
 }
 
-impl Rehearsal {
-    pub fn hold(&self, tally: &mut Tally) -> Verdict {
-        let followed = self.script.follow(tally);
-        followed.map(|_| ()).map_err(|found| found.of(self.name))
-    }
-}
-
-/// M1, then every needed margin in range against the division.
+/// M1, then every needed margin in range.
 pub fn hold_margins() -> Verdict {
     let case = Case::new(&[], 0);
-    let held = |buffer, spacing, expected| {
-        let what = format!("needed margin of buffer {buffer}, spacing {spacing}");
-        case.hold(&what, expected, (PROVED.needed_margin)(buffer, spacing))?;
-        case.hold(&what, expected, (REFERENCE.needed_margin)(buffer, spacing))
-    };
-    held(33, 1, 17)?;
-    held(32, 0, 32)?;
-    held(64, 63, 1)?;
+    for (buffer, spacing, needed) in MARGINS {
+        case.hold("M1", needed, (PROVED.needed_margin)(buffer, spacing))?;
+    }
     for buffer in 1..=64 {
         for spacing in 0..=63 {
-            held(buffer, spacing, needed_margin(buffer, spacing))?;
+            let what = format!("needed margin of buffer {buffer}, spacing {spacing}");
+            let proved = (PROVED.needed_margin)(buffer, spacing);
+            case.same(&what, proved, (REFERENCE.needed_margin)(buffer, spacing))?;
         }
     }
     Ok(())
@@ -73,84 +94,68 @@ pub fn example() -> Script {
     Script::new([4, 1, 0, 1, 1, 0])
         .moves(BEGIN_PUT, 7)
         .works(2)
-        .gets(WORKER_STEP, 0, WAIT, 0)
-        .moves(DRAIN, 0)
+        .answers(WAIT, 0)
+        .drains(1)
         .answers(STORED, 0)
 }
 
-/// Two tasks in memory, both taken with the stores still pending.
+/// M2 and M3: two tasks in memory, both taken with the stores still pending.
 fn two_taken_unseen(margin: u32) -> Script {
     let stored = Script::new([4, 2, 0, margin, 1, 0]);
     let stored = stored.put(11).drains(2).put(12).drains(2);
     stored.take(12).take(11)
 }
 
-pub fn m2() -> Script {
-    two_taken_unseen(1).steal(0, TASK, 11)
-}
-
 /// The head is 0 again: with a head of 1 the last take would go the long way.
-pub fn m3() -> Script {
+fn m3() -> Script {
     let aborted = two_taken_unseen(2).steal(0, ABORT, 0).drains(2);
     aborted.put(13).drains(2).take(13)
 }
 
-pub fn m4() -> Script {
+fn m4() -> Script {
     let stored = Script::new([2, 2, 0, 1, 1, 0]).put(1);
     stored.put_ends(2, FULL).drains(2).take(1)
 }
 
-pub fn m5_after_step_3() -> Script {
+/// M5 with the thief after `steps` of its steps.
+fn m5(steps: u32) -> Script {
     Script::new([2, 1, 0, 1, 1, 0])
         .put_drained(21)
         .moves(BEGIN_STEAL, 0)
-        .robs(0, 3)
+        .robs(0, steps)
         .put_drained(22)
         .put_ends(23, FULL)
-        .robs(0, 2)
-        .gets(THIEF_STEP, 0, TASK, 21)
+}
+
+fn m5_before_its_load() -> Script {
+    m5(3).robs(0, 2).gets(THIEF_STEP, 0, TASK, 21)
 }
 
 /// Here the thief has seen one task and must abort, so two tasks stand in two
 /// slots afterwards, both whole.
-pub fn m5_after_step_4() -> Script {
-    Script::new([2, 1, 0, 1, 1, 0])
-        .put_drained(21)
-        .moves(BEGIN_STEAL, 0)
-        .robs(0, 4)
-        .put_drained(22)
-        .put_ends(23, FULL)
-        .robs(0, 1)
-        .gets(THIEF_STEP, 0, ABORT, 0)
-        .take(22)
-        .drains(1)
-        .take(21)
+fn m5_after_its_load() -> Script {
+    let aborted = m5(4).robs(0, 1).gets(THIEF_STEP, 0, ABORT, 0);
+    aborted.take(22).drains(1).take(21)
 }
 
 /// The put and take afterwards show that the tail is 0 again.
-pub fn m6() -> Script {
-    let emptied = Script::new([4, 2, 0, 0, 1, 0]).take_empty(0);
-    emptied.put(5).drains(2).take(5)
+fn m6() -> Script {
+    start_at(0).take_empty().put(5).drains(2).take(5)
 }
 
-pub fn m7_at_the_end() -> Script {
-    Script::new([4, 2, 0, 0, 1, LAST_INDEX]).put_ends(1, END)
+fn start_at(start: u32) -> Script {
+    Script::new([4, 2, 0, 0, 1, start])
 }
 
-pub fn m7_before_the_end() -> Script {
-    let stored = Script::new([4, 2, 0, 0, 1, LAST_INDEX - 1]).put(1);
-    stored.put_ends(2, END)
-}
-
-pub fn m8() -> Script {
+fn m8() -> Script {
     Script::new([4, 2, 1, 0, 1, 0])
-        .take_empty(0)
+        .take_empty()
         .gets(BEGIN_TAKE, 0, EARLY, 0)
         .client_stores(1)
         .moves(BEGIN_TAKE, 0)
 }
 
-pub fn m9() -> Script {
+fn m9() -> Script {
     Script::new([4, 1, 0, 1, 1, 0])
         .put_drained(31)
         .moves(BEGIN_STEAL, 0)
@@ -163,4 +168,60 @@ pub fn m9() -> Script {
         .gets(THIEF_STEP, 0, ABORT, 0)
         .works(3)
         .answers(TASK, 31)
+}
+
+/// Buffer 4 and one client store between takes need a margin of 2. The worker
+/// takes both blocks; neither store of its tail has reached memory when the
+/// thief looks.
+fn both_taken(margin: u32) -> Script {
+    let stored = Script::new([8, 4, 1, margin, 1, 0]);
+    let stored = stored.put(101).drains(2).put(102).drains(2);
+    stored.take(102).client_stores(1).take(101)
+}
+
+/// Thief 0 has the lock; thief 1 and the worker, who is after the last block,
+/// both wait for it.
+fn lock_wait() -> Script {
+    Script::new([4, 1, 0, 1, 2, 0])
+        .put_drained(201)
+        .moves(BEGIN_STEAL, 0)
+        .robs(0, 3)
+        .moves(BEGIN_STEAL, 1)
+        .gets(THIEF_STEP, 1, WAIT, 0)
+        .moves(BEGIN_TAKE, 0)
+        .works(2)
+        .drains(1)
+        .answers(WAIT, 0)
+        .robs(0, 2)
+        .gets(THIEF_STEP, 0, ABORT, 0)
+        .works(1)
+        .gets(THIEF_STEP, 1, WAIT, 0)
+        .works(2)
+        .answers(TASK, 201)
+        .robs(1, 5)
+        .gets(THIEF_STEP, 1, ABORT, 0)
+}
+
+/// Four slots hold three blocks; the fourth put is stored once a thief has
+/// taken one.
+fn full() -> Script {
+    let mut stored = Script::new([4, 2, 0, 2, 1, 0]);
+    for block in 301..=303 {
+        stored = stored.put(block).drains(2);
+    }
+    stored.put_ends(304, FULL).steal(0, TASK, 301).put(304)
+}
+
+/// Two indices are left: after two puts the third finds the end, and a take
+/// gives one back.
+fn end() -> Script {
+    let stored = Script::new([8, 2, 0, 0, 1, LAST_INDEX - 2]);
+    let stored = stored.put(401).drains(2).put(402).drains(2);
+    stored.put_ends(403, END).take(402).drains(1).put(403)
+}
+
+/// The third entry asks for a second thief, where there is one only.
+fn refused() -> Script {
+    let begun = Script::new([4, 1, 0, 1, 1, 0]).moves(BEGIN_STEAL, 0);
+    begun.robs(0, 1).refused(THIEF_STEP, 1, 4)
 }

@@ -5,7 +5,7 @@ use std::fs;
 use std::path::PathBuf;
 
 use crate::checks::Disagreement;
-use crate::tally::{Count, Tally, OUTCOMES, REFUSALS};
+use crate::tally::{Count, Tally, MACHINES, OUTCOMES, REFUSALS};
 
 /// Files up to this length are printed whole.
 const PRINTED: usize = 512;
@@ -17,7 +17,29 @@ pub struct Part {
     pub seconds: f64,
 }
 
-pub fn print_table(parts: &[Part], random: &Tally) {
+const KINDS: [(&str, Count); 3] = [
+    ("sound schedules", Count::SoundFiles),
+    ("damaged files", Count::DamagedFiles),
+    ("calls of the writer", Count::WriterCalls),
+];
+
+const PAIRS: [(&str, Count); 3] = [
+    ("alike", Count::Alike),
+    ("not alike", Count::NotAlike),
+    ("one refused", Count::AlikeRefused),
+];
+
+const JUDGED: [(&str, Count); 7] = [
+    ("margin enough, none differs", Count::JudgedEnough),
+    ("  more than one thief", Count::EnoughSeveralThieves),
+    ("  a thief got a task", Count::EnoughStolen),
+    ("  a put found the queue full", Count::EnoughFull),
+    ("  start near the last index", Count::EnoughNearLastIndex),
+    ("margin short", Count::JudgedShort),
+    ("  of these the plain queue differs", Count::ShortHarmed),
+];
+
+pub fn print_table(parts: &[Part], steps: &Tally, random: &Tally) {
     println!("compared{:>50}{:>12}", "cases", "seconds");
     for part in parts {
         println!(
@@ -25,55 +47,34 @@ pub fn print_table(parts: &[Part], random: &Tally) {
             part.name, part.cases, part.seconds
         );
     }
+    println!("single steps");
+    rows(&MACHINES, steps);
+    outcomes(steps);
     println!("random cases, by kind");
-    row("sound schedules", random.of(Count::SoundFiles));
-    row("damaged files", random.of(Count::DamagedFiles));
-    row("calls of the writer", random.of(Count::WriterCalls));
+    rows(&KINDS, random);
     println!("outcomes in random cases");
-    for (outcome, name) in OUTCOMES {
-        row(&format!("{outcome:2} {name}"), random.outcome_seen(outcome));
-    }
-    row("entries run", random.of(Count::EntriesRun));
+    outcomes(random);
     println!("refusals in random cases");
     for (number, name) in REFUSALS {
         row(&format!("{number:2} {name}"), random.refusal_seen(number));
     }
-    print_pairs(random);
-    print_judged(random);
-}
-
-fn print_pairs(random: &Tally) {
     println!("pairs of files, in random cases");
-    row("alike", random.of(Count::Alike));
-    row("not alike", random.of(Count::NotAlike));
-    row("one refused", random.of(Count::AlikeRefused));
-    row(
-        "files whose lines were made here too",
-        random.of(Count::LinesCompared),
-    );
+    rows(&PAIRS, random);
+    println!("random runs beside the plain queue");
+    rows(&JUDGED, random);
 }
 
-fn print_judged(random: &Tally) {
-    println!("random runs beside the plain queue");
-    row(
-        "margin enough, none differs",
-        random.of(Count::JudgedEnough),
-    );
-    row(
-        "  more than one thief",
-        random.of(Count::EnoughSeveralThieves),
-    );
-    row("  a thief got a task", random.of(Count::EnoughStolen));
-    row("  a put found the queue full", random.of(Count::EnoughFull));
-    row(
-        "  start near the last index",
-        random.of(Count::EnoughNearLastIndex),
-    );
-    row("margin short", random.of(Count::JudgedShort));
-    row(
-        "  of these the plain queue differs",
-        random.of(Count::ShortHarmed),
-    );
+fn outcomes(seen: &Tally) {
+    for (outcome, name) in OUTCOMES {
+        row(&format!("{outcome:2} {name}"), seen.outcome_seen(outcome));
+    }
+    row("entries run", seen.entries_run());
+}
+
+fn rows(rows: &[(&str, Count)], random: &Tally) {
+    for &(name, count) in rows {
+        row(name, random.of(count));
+    }
 }
 
 fn row(name: &str, count: u64) {

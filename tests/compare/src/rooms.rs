@@ -1,50 +1,90 @@
 //! Lent memory that is too short, exact or longer than needed.
 
-use crate::checks::{trace_room, Case, Disagreement, Verdict, NO_ROOM, TOTALS_ROOM};
-use crate::edges::drains;
-use crate::schedule::MOST_ENTRIES;
-use crate::sides::Answer;
+use crate::checks::{Case, Verdict, NO_ROOM};
+use crate::edges::{drains, SHORT};
+use crate::lent::Lent;
+use crate::schedule::{trace_room, MOST_ENTRIES};
+use crate::sides::{Answer, SIZES_ROOM, TOTALS_ROOM};
+use crate::tally::Tally;
 
-/// The trace, the sizes and the totals in turn. Gives the number of cases.
-pub fn hold() -> Result<u64, Disagreement> {
-    let mut cases = 0;
-    for count in [0, 1, 2, 7, 255, MOST_ENTRIES] {
-        let file = drains(count);
-        let needed = trace_room(count);
-        for room in [0, 1, needed - 1, needed, needed + 1, needed + 300] {
-            trace_of(&file, room, needed)?;
-            cases += 1;
+/// A file, and the bytes lent with it.
+pub struct Rooms {
+    file: Vec<u8>,
+    /// What reading it answers where there is room.
+    read: Answer,
+    sizes: usize,
+    trace: usize,
+    totals: usize,
+}
+
+/// Each room around what it must have, alone and together with the others.
+pub fn all() -> Vec<Rooms> {
+    let mut all = Vec::new();
+    for entries in [0, 1, 2, 7, 255, MOST_ENTRIES] {
+        let needed = trace_room(entries);
+        for trace in [0, 1, needed - 1, needed, needed + 1, needed + 300] {
+            for totals in [0, TOTALS_ROOM - 1, TOTALS_ROOM, TOTALS_ROOM + 1] {
+                all.push(Rooms::accepted(entries, 2 * totals, trace, totals));
+            }
         }
     }
-    let (accepted, refused) = (drains(3), vec![255; 27]);
     for room in 0..=32 {
-        Case::new(&accepted, room as u64).read(room)?;
-        Case::new(&refused, room as u64).read(room)?;
-        totals_of(&accepted, room)?;
-        totals_of(&refused, room)?;
-        cases += 4;
+        all.push(Rooms::accepted(3, room, trace_room(3), room));
+        all.push(Rooms::refused(room));
     }
-    Ok(cases)
+    all
 }
 
-fn trace_of(file: &[u8], room: usize, needed: usize) -> Verdict {
-    let case = Case::new(file, room as u64);
-    let (answer, [trace, totals]) = case.raw_run([room, TOTALS_ROOM])?;
-    if room < needed {
-        case.hold("a short trace", NO_ROOM, answer)?;
-        case.hold("a short trace is left", true, trace.untouched())?;
-        case.hold("totals of no run", true, totals.untouched())
-    } else {
-        case.hold("a trace that fits", Answer::value(0), answer)?;
-        case.hold("trace beyond", true, trace.untouched_beyond(needed))?;
-        case.hold("totals beyond", true, totals.untouched_beyond(TOTALS_ROOM))
+impl Rooms {
+    fn accepted(entries: usize, sizes: usize, trace: usize, totals: usize) -> Self {
+        Rooms {
+            file: drains(entries),
+            read: Answer::value(entries as u32),
+            sizes,
+            trace,
+            totals,
+        }
+    }
+
+    fn refused(room: usize) -> Self {
+        Rooms {
+            file: vec![255; 27],
+            read: SHORT,
+            sizes: room,
+            trace: room,
+            totals: room,
+        }
+    }
+
+    pub fn hold(&self, _: &mut Tally) -> Verdict {
+        let case = Case::new(&self.file, (self.sizes + 7 * self.trace) as u64);
+        let (answer, sizes) = case.read(self.sizes)?;
+        let fits = self.sizes >= SIZES_ROOM;
+        case.hold("read", self.expected(fits, self.read), answer)?;
+        hold_left(&case, answer, [(&sizes, SIZES_ROOM)])?;
+
+        let needed = trace_room(self.read.low as usize);
+        let (answer, [trace, totals]) = case.raw_run([self.trace, self.totals])?;
+        let fits = self.trace >= needed && self.totals >= TOTALS_ROOM;
+        case.hold("run", self.expected(fits, Answer::value(0)), answer)?;
+        hold_left(&case, answer, [(&trace, needed), (&totals, TOTALS_ROOM)])
+    }
+
+    /// Too little room is refused after every fault of the file.
+    fn expected(&self, fits: bool, answer: Answer) -> Answer {
+        match self.read {
+            refusal if refusal.is_refused() => refusal,
+            _ if fits => answer,
+            _ => NO_ROOM,
+        }
     }
 }
 
-fn totals_of(file: &[u8], room: usize) -> Verdict {
-    let case = Case::new(file, 7 * room as u64);
-    let (answer, [_, totals]) = case.raw_run([trace_room(3), room])?;
-    let put = room.min(TOTALS_ROOM) / 4 * 4;
-    let used = if answer.is_refused() { 0 } else { put };
-    case.hold("totals beyond", true, totals.untouched_beyond(used))
+/// Nothing beyond the bytes that an answer takes is touched, and nothing at all
+/// by a refusal.
+fn hold_left<const N: usize>(case: &Case, answer: Answer, lent: [(&Lent, usize); N]) -> Verdict {
+    let left = |(lent, needed): (&Lent, usize)| {
+        lent.untouched_beyond(if answer.is_refused() { 0 } else { needed })
+    };
+    case.hold("lent memory beyond", true, lent.into_iter().all(left))
 }

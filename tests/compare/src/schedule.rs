@@ -1,4 +1,7 @@
-//! Schedules before they are bytes, and the bytes, sound or not.
+//! Schedules before they are bytes, and the bytes, sound or not; the numbers of
+//! kinds and outcomes.
+
+use crate::sides::{in_file_order, REFERENCE, TOTALS_ROOM};
 
 /// The most entries a file may have.
 pub const MOST_ENTRIES: usize = 4096;
@@ -17,7 +20,6 @@ pub const RANGES: [(u32, u32); 7] = [
     (0, MOST_ENTRIES as u32),
 ];
 
-pub const SLOTS: usize = 0;
 pub const BUFFER: usize = 1;
 pub const SPACING: usize = 2;
 pub const MARGIN: usize = 3;
@@ -32,6 +34,17 @@ pub const WORKER_STEP: u8 = 4;
 pub const BEGIN_STEAL: u8 = 5;
 pub const THIEF_STEP: u8 = 6;
 
+pub const MOVED: u8 = 0;
+pub const PLACE: u8 = 5;
+pub const EARLY: u8 = 6;
+pub const WAIT: u8 = 7;
+pub const STORED: u8 = 16;
+pub const TASK: u8 = 17;
+pub const EMPTY: u8 = 18;
+pub const ABORT: u8 = 19;
+pub const FULL: u8 = 20;
+pub const END: u8 = 21;
+
 /// Kind and operand.
 pub type Entry = (u8, u32);
 
@@ -45,24 +58,22 @@ pub struct Draft {
 
 impl Draft {
     pub fn new(sizes: [u32; 6]) -> Self {
+        Draft::with(sizes, &[])
+    }
+
+    pub fn with(sizes: [u32; 6], entries: &[Entry]) -> Self {
         Draft {
             sizes,
-            entries: Vec::new(),
+            entries: entries.to_vec(),
         }
     }
 
-    /// Takes an accepted file apart.
+    /// An accepted file as the reference reads it.
     pub fn of_accepted(file: &[u8]) -> Self {
-        let count = (file.len() - HEADER) / 5;
-        let (kinds, operands) = file[HEADER..].split_at(count);
-        let operands = operands.chunks_exact(4).map(number_at);
-        let mut sizes = [0; 6];
-        for (size, bytes) in sizes.iter_mut().zip(file.chunks_exact(4)) {
-            *size = number_at(bytes);
-        }
+        let read = reference::read(file).expect("the file is accepted");
         Draft {
-            sizes,
-            entries: kinds.iter().copied().zip(operands).collect(),
+            sizes: in_file_order(&read.sizes),
+            entries: read.kinds.into_iter().zip(read.operands).collect(),
         }
     }
 
@@ -79,21 +90,25 @@ impl Draft {
         assemble(&self.sizes, entries, &self.kinds(), &self.operands())
     }
 
-    pub fn margin_in_use(&self) -> u32 {
-        match self.sizes[MARGIN] {
-            0 => self.sizes[BUFFER],
-            margin => margin,
-        }
+    /// The outcomes that the reference gives to the entries of a sound draft.
+    pub fn outcomes(&self) -> Vec<u8> {
+        let entries = self.entries.len();
+        let mut trace = vec![0; trace_room(entries)];
+        let answer = (REFERENCE.run)(&self.bytes(), &mut trace, &mut [0; TOTALS_ROOM]);
+        assert!(!answer.is_refused(), "the draft is sound");
+        trace[4..4 + entries].to_vec()
     }
 
     pub fn has_enough_margin(&self) -> bool {
-        self.margin_in_use() >= needed_margin(self.sizes[BUFFER], self.sizes[SPACING])
+        let [_, buffer, spacing, margin, ..] = self.sizes;
+        let in_use = if margin == 0 { buffer } else { margin };
+        in_use >= reference::needed_margin(buffer, spacing)
     }
 }
 
-/// The division, for sizes in range.
-pub fn needed_margin(buffer: u32, spacing: u32) -> u32 {
-    buffer.div_ceil(spacing + 1)
+/// The bytes of a trace.
+pub const fn trace_room(entries: usize) -> usize {
+    4 + 5 * entries
 }
 
 /// The bytes of a file whose parts need not fit one another.

@@ -1,28 +1,20 @@
 //! A schedule beside the trace that it must give.
 
-use crate::checks::{Case, Disagreement, Ran};
+use crate::checks::{Case, Verdict};
 use crate::schedule::{
-    Draft, BEGIN_PUT, BEGIN_STEAL, BEGIN_TAKE, CLIENT_STORE, DRAIN, THIEF_STEP, WORKER_STEP,
+    Draft, BEGIN_PUT, BEGIN_STEAL, BEGIN_TAKE, CLIENT_STORE, DRAIN, EMPTY, MOVED, STORED, TASK,
+    THIEF_STEP, WAIT, WORKER_STEP,
 };
+use crate::sides::Answer;
 use crate::tally::Tally;
-
-pub const MOVED: u8 = 0;
-pub const EARLY: u8 = 6;
-pub const WAIT: u8 = 7;
-pub const STORED: u8 = 16;
-pub const TASK: u8 = 17;
-pub const EMPTY: u8 = 18;
-pub const ABORT: u8 = 19;
-pub const FULL: u8 = 20;
-pub const END: u8 = 21;
-
-/// Outcome and value of one entry.
-pub type Outcome = (u8, u32);
 
 #[derive(Clone)]
 pub struct Script {
     pub draft: Draft,
-    pub expected: Vec<Outcome>,
+    /// Outcome and value of each entry.
+    expected: Vec<(u8, u32)>,
+    /// How the whole file is refused, if it is.
+    refusal: Option<Answer>,
 }
 
 impl Script {
@@ -30,6 +22,7 @@ impl Script {
         Script {
             draft: Draft::new(sizes),
             expected: Vec::new(),
+            refusal: None,
         }
     }
 
@@ -45,34 +38,28 @@ impl Script {
         self.gets(kind, operand, MOVED, 0)
     }
 
-    pub fn drains(mut self, times: u32) -> Self {
+    /// Entries that all move.
+    fn all_move(mut self, times: u32, kind: u8, operand: u32) -> Self {
         for _ in 0..times {
-            self = self.moves(DRAIN, 0);
+            self = self.moves(kind, operand);
         }
         self
     }
 
-    pub fn client_stores(mut self, times: u32) -> Self {
-        for _ in 0..times {
-            self = self.moves(CLIENT_STORE, 0);
-        }
-        self
+    pub fn drains(self, times: u32) -> Self {
+        self.all_move(times, DRAIN, 0)
     }
 
-    /// Worker steps that all move.
-    pub fn works(mut self, times: u32) -> Self {
-        for _ in 0..times {
-            self = self.moves(WORKER_STEP, 0);
-        }
-        self
+    pub fn client_stores(self, times: u32) -> Self {
+        self.all_move(times, CLIENT_STORE, 0)
     }
 
-    /// Steps of one thief that all move.
-    pub fn robs(mut self, thief: u32, times: u32) -> Self {
-        for _ in 0..times {
-            self = self.moves(THIEF_STEP, thief);
-        }
-        self
+    pub fn works(self, times: u32) -> Self {
+        self.all_move(times, WORKER_STEP, 0)
+    }
+
+    pub fn robs(self, thief: u32, times: u32) -> Self {
+        self.all_move(times, THIEF_STEP, thief)
     }
 
     /// The worker's next step, which answers.
@@ -101,12 +88,12 @@ impl Script {
         self.moves(BEGIN_TAKE, 0).works(2).answers(TASK, task)
     }
 
-    /// A take by the long way of a queue that is empty, with `pending` stores
-    /// in the list before it and a drain just where it would wait.
-    pub fn take_empty(self, pending: u32) -> Self {
-        let locked = self.moves(BEGIN_TAKE, 0).works(2);
-        let locked = locked.answers(WAIT, 0).drains(pending + 1).works(1);
-        locked.works(2).answers(WAIT, 0).drains(1).answers(EMPTY, 0)
+    /// A take by the long way of a queue that is empty, with nothing pending
+    /// before it and a drain just where it would wait.
+    pub fn take_empty(self) -> Self {
+        let begun = self.moves(BEGIN_TAKE, 0).works(2).answers(WAIT, 0);
+        let locked = begun.drains(1).works(3);
+        locked.answers(WAIT, 0).drains(1).answers(EMPTY, 0)
     }
 
     /// A whole steal.
@@ -115,17 +102,25 @@ impl Script {
         begun.gets(THIEF_STEP, thief, outcome, value)
     }
 
-    /// Runs the schedule on both sides and holds it to its trace.
-    pub fn follow(&self, tally: &mut Tally) -> Result<Ran, Disagreement> {
+    /// A last entry for which the whole file is refused.
+    pub fn refused(mut self, kind: u8, operand: u32, number: u32) -> Self {
+        let place = self.draft.entries.len() as u32;
+        self.draft.entries.push((kind, operand));
+        self.refusal = Some(Answer::refused(number, place));
+        self
+    }
+
+    /// Takes the schedule through both sides and holds it to its trace.
+    pub fn follow(&self, tally: &mut Tally) -> Verdict {
         let file = self.draft.bytes();
         let case = Case::new(&file, file.len() as u64);
-        let refused = || case.disagreement("the schedule is refused".into());
-        let ran = case.examine(tally)?.ok_or_else(refused)?;
-        let given = ran.outcomes.iter().copied().zip(ran.values.iter().copied());
+        let given = case.examine(tally)?;
+        case.hold("refusal", self.refusal, given.as_ref().err().copied())?;
+        let Ok(ran) = given else { return Ok(()) };
+        let given = ran.outcomes.into_iter().zip(ran.values);
         for (entry, (expected, given)) in self.expected.iter().zip(given).enumerate() {
             case.hold(&format!("outcome of entry {entry}"), *expected, given)?;
         }
-        case.hold("entries run", self.expected.len(), ran.outcomes.len())?;
-        Ok(ran)
+        Ok(())
     }
 }

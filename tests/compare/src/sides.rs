@@ -1,6 +1,12 @@
 //! Both implementations in one shape, so that each comparison is written once.
 
+use reference::{Refusal, Sizes};
+
 use crate::ffi;
+
+/// Bytes that must be lent for the six sizes, and for the three totals.
+pub const SIZES_ROOM: usize = 24;
+pub const TOTALS_ROOM: usize = 12;
 
 /// What an operation answers: refusal number 0 with a value, or a refusal
 /// number with its place.
@@ -32,6 +38,13 @@ impl Answer {
         Answer {
             number: (answer >> 32) as u32,
             low: answer as u32,
+        }
+    }
+
+    fn of(result: Result<usize, Refusal>) -> Self {
+        match result {
+            Ok(value) => Answer::value(u32::try_from(value).expect("no value is that large")),
+            Err(refusal) => Answer::refused(refusal.number, refusal.place),
         }
     }
 }
@@ -70,67 +83,63 @@ pub static REFERENCE: Side = Side {
 };
 
 fn reference_read(file: &[u8], sizes: &mut [u8]) -> Answer {
-    match reference::read(file) {
-        Ok(schedule) => {
-            let read = schedule.sizes;
-            put_numbers(
-                sizes,
-                &[
-                    read.slots,
-                    read.buffer,
-                    read.spacing,
-                    read.margin,
-                    read.thieves,
-                    read.start,
-                ],
-            );
-            Answer::value(number_of(schedule.kinds.len()))
-        }
-        Err(refusal) => Answer::refused(refusal.number, refusal.place),
-    }
+    const ROOM: Refusal = Refusal {
+        number: 8,
+        place: 0,
+    };
+    Answer::of(reference::read(file).and_then(|read| {
+        let lent = sizes.get_mut(..SIZES_ROOM).ok_or(ROOM)?;
+        put_numbers(lent, &in_file_order(&read.sizes));
+        Ok(read.kinds.len())
+    }))
 }
 
+/// Too few bytes for the totals are refused as too few for the trace are, so
+/// such a run is given none of it.
 fn reference_run(file: &[u8], trace: &mut [u8], totals: &mut [u8]) -> Answer {
-    match reference::run(file, trace) {
-        Ok(tally) => {
-            put_numbers(totals, &[tally.given, tally.aborts, tally.waits]);
-            Answer::value(0)
-        }
-        Err(refusal) => Answer::refused(refusal.number, refusal.place),
-    }
+    let short = totals.len() < TOTALS_ROOM;
+    let trace = if short { &mut [] } else { trace };
+    Answer::of(reference::run(file, trace).map(|ran| {
+        put_numbers(totals, &[ran.given, ran.aborts, ran.waits]);
+        0
+    }))
 }
 
 fn reference_alike(first: &[u8], second: &[u8]) -> Answer {
-    match reference::alike(first, second) {
-        Ok(alike) => Answer::value(u32::from(alike)),
-        Err(refusal) => Answer::refused(refusal.number, refusal.place),
-    }
+    Answer::of(reference::alike(first, second).map(usize::from))
 }
 
 fn reference_write(sizes: &[u32; 6], kinds: &[u8], operands: &[u32], file: &mut [u8]) -> Answer {
+    let sizes = from_file_order(sizes);
+    Answer::of(reference::write(&sizes, kinds, operands, file))
+}
+
+pub fn from_file_order(sizes: &[u32; 6]) -> Sizes {
     let [slots, buffer, spacing, margin, thieves, start] = *sizes;
-    let sizes = reference::Sizes {
+    Sizes {
         slots,
         buffer,
         spacing,
         margin,
         thieves,
         start,
-    };
-    match reference::write(&sizes, kinds, operands, file) {
-        Ok(length) => Answer::value(number_of(length)),
-        Err(refusal) => Answer::refused(refusal.number, refusal.place),
     }
 }
 
-/// Puts each number where its four bytes are all there, as the exported functions do with
-/// lent memory that is too short.
+pub fn in_file_order(sizes: &Sizes) -> [u32; 6] {
+    let Sizes {
+        slots,
+        buffer,
+        spacing,
+        margin,
+        thieves,
+        start,
+    } = *sizes;
+    [slots, buffer, spacing, margin, thieves, start]
+}
+
 fn put_numbers(lent: &mut [u8], numbers: &[u32]) {
     for (place, number) in lent.chunks_exact_mut(4).zip(numbers) {
         place.copy_from_slice(&number.to_le_bytes());
     }
-}
-
-fn number_of(length: usize) -> u32 {
-    u32::try_from(length).expect("no accepted length is that large")
 }

@@ -66,7 +66,7 @@ fn work_through(
 
 /// A panic inside a case is a disagreement of that case, not the end of a run
 /// whose case nobody knows.
-pub fn guarded(work: impl FnOnce() -> Verdict) -> Verdict {
+pub fn guarded<T>(work: impl FnOnce() -> Result<T, Disagreement>) -> Result<T, Disagreement> {
     catch_unwind(AssertUnwindSafe(work)).unwrap_or_else(|panic| {
         Err(Disagreement::without_file(format!(
             "a panic: {}",

@@ -1,19 +1,20 @@
 //! What has been seen, counted by each thread and added up at the end.
 
 use crate::checks::Ran;
+use crate::schedule::{ABORT, EARLY, EMPTY, END, FULL, MOVED, PLACE, STORED, TASK, WAIT};
 
 /// Every outcome an entry can have.
 pub const OUTCOMES: [(u8, &str); 10] = [
-    (0, "moved"),
-    (5, "PLACE"),
-    (6, "EARLY"),
-    (7, "WAIT"),
-    (16, "STORED"),
-    (17, "TASK"),
-    (18, "EMPTY"),
-    (19, "ABORT"),
-    (20, "FULL"),
-    (21, "END"),
+    (MOVED, "moved"),
+    (PLACE, "PLACE"),
+    (EARLY, "EARLY"),
+    (WAIT, "WAIT"),
+    (STORED, "STORED"),
+    (TASK, "TASK"),
+    (EMPTY, "EMPTY"),
+    (ABORT, "ABORT"),
+    (FULL, "FULL"),
+    (END, "END"),
 ];
 
 /// Every refusal of a file or of lent memory.
@@ -31,11 +32,9 @@ pub enum Count {
     SoundFiles,
     DamagedFiles,
     WriterCalls,
-    EntriesRun,
     Alike,
     NotAlike,
     AlikeRefused,
-    LinesCompared,
     JudgedEnough,
     EnoughSeveralThieves,
     EnoughStolen,
@@ -43,9 +42,17 @@ pub enum Count {
     EnoughNearLastIndex,
     JudgedShort,
     ShortHarmed,
+    InRange,
+    OutOfRange,
 }
 
-const COUNTS: usize = Count::ShortHarmed as usize + 1;
+/// What a machine that is handed over can be.
+pub const MACHINES: [(&str, Count); 2] = [
+    ("machines in range", Count::InRange),
+    ("machines out of range", Count::OutOfRange),
+];
+
+const COUNTS: usize = Count::OutOfRange as usize + 1;
 
 #[derive(Clone, Default)]
 pub struct Tally {
@@ -56,11 +63,7 @@ pub struct Tally {
 
 impl Tally {
     pub fn count(&mut self, what: Count) {
-        self.count_many(what, 1);
-    }
-
-    pub fn count_many(&mut self, what: Count, times: u64) {
-        self.counts[what as usize] += times;
+        self.counts[what as usize] += 1;
     }
 
     pub fn of(&self, what: Count) -> u64 {
@@ -74,26 +77,50 @@ impl Tally {
     }
 
     pub fn run(&mut self, ran: &Ran) {
-        self.count_many(Count::EntriesRun, ran.outcomes.len() as u64);
         for &outcome in &ran.outcomes {
-            self.outcomes[usize::from(outcome)] += 1;
+            self.outcome(outcome);
         }
+    }
+
+    pub fn outcome(&mut self, outcome: u8) {
+        self.outcomes[usize::from(outcome)] += 1;
     }
 
     pub fn outcome_seen(&self, outcome: u8) -> u64 {
         self.outcomes[usize::from(outcome)]
     }
 
+    pub fn entries_run(&self) -> u64 {
+        self.outcomes.iter().sum()
+    }
+
     pub fn refusal_seen(&self, number: u32) -> u64 {
         self.refusals[number as usize]
     }
 
+    /// Names of what never came up in single steps.
+    pub fn missing_steps(&self) -> Vec<&'static str> {
+        let machines = MACHINES.iter().filter(|row| self.of(row.1) == 0);
+        let outcomes = self.missing_outcomes();
+        outcomes
+            .into_iter()
+            .chain(machines.map(|row| row.0))
+            .collect()
+    }
+
     /// Names of the outcomes and refusals that never came up.
     pub fn missing(&self) -> Vec<&'static str> {
-        let outcomes = OUTCOMES.iter().filter(|row| self.outcome_seen(row.0) == 0);
         let refusals = REFUSALS.iter().filter(|row| self.refusal_seen(row.0) == 0);
-        let names = outcomes.map(|row| row.1);
-        names.chain(refusals.map(|row| row.1)).collect()
+        let outcomes = self.missing_outcomes();
+        outcomes
+            .into_iter()
+            .chain(refusals.map(|row| row.1))
+            .collect()
+    }
+
+    fn missing_outcomes(&self) -> Vec<&'static str> {
+        let outcomes = OUTCOMES.iter().filter(|row| self.outcome_seen(row.0) == 0);
+        outcomes.map(|row| row.1).collect()
     }
 
     pub fn add(&mut self, other: &Tally) {

@@ -1,6 +1,6 @@
 //! The writer: its edges, and random calls with none, one or two faults.
 
-use crate::checks::{Case, Disagreement, Verdict, NO_ROOM};
+use crate::checks::{Case, Verdict, NO_ROOM};
 use crate::edges::{SHORT, SIZES};
 use crate::generate;
 use crate::random::Random;
@@ -11,7 +11,7 @@ use crate::sides::Answer;
 use crate::tally::{Count, Tally};
 
 /// A call of the writer and its answer.
-struct Written {
+pub struct Written {
     name: &'static str,
     sizes: [u32; 6],
     kinds: Vec<u8>,
@@ -21,7 +21,7 @@ struct Written {
 }
 
 impl Written {
-    fn hold(&self) -> Verdict {
+    pub fn hold(&self, _: &mut Tally) -> Verdict {
         let file = as_file(&self.sizes, &self.kinds, &self.operands);
         let case = Case::new(&file, self.room as u64);
         let (answer, file) = case.written(&self.sizes, &self.kinds, &self.operands, self.room)?;
@@ -31,15 +31,12 @@ impl Written {
     }
 }
 
-/// The writer's refusals, alone and in their order. Gives the number of calls.
-pub fn hold() -> Result<u64, Disagreement> {
+/// The writer's refusals, alone and in their order.
+pub fn edges() -> Vec<Written> {
     let mut calls = edge_lengths();
     calls.extend(edge_order());
     calls.extend(edge_sizes());
-    for call in &calls {
-        call.hold()?;
-    }
-    Ok(calls.len() as u64)
+    calls
 }
 
 /// A call that writes nothing but drains.
@@ -148,9 +145,8 @@ pub fn random_call(length: usize, random: &mut Random, tally: &mut Tally) -> Ver
     }
     let length = answer.low as usize;
     context.hold("file beyond", true, file.untouched_beyond(length))?;
-    let case = Case::new(&file.content()[..length], random.word());
-    let ran = case.examine(tally)?;
-    case.hold("a written file is accepted", true, ran.is_some())
+    let written = &file.content()[..length];
+    Case::new(written, random.word()).accepted(tally).map(drop)
 }
 
 /// The parts of a call in a row, to show them when a call disagrees.

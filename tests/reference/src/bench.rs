@@ -31,13 +31,26 @@ pub(crate) struct Bench<T> {
 
 impl<T: Copy + Default> Bench<T> {
     pub(crate) fn new(sizes: &Sizes) -> Self {
+        let thieves = vec![None; sizes.thieves as usize];
+        Bench::resumed(sizes, Machine::new(sizes), None, thieves, None)
+    }
+
+    /// A bench that is taken up in the middle of things, with one place in
+    /// `thieves` for each thief.
+    pub(crate) fn resumed(
+        sizes: &Sizes,
+        machine: Machine<T>,
+        worker: Option<WorkerCall<T>>,
+        thieves: Vec<Option<Steal<T>>>,
+        stores_since_take: Option<u32>,
+    ) -> Self {
         Bench {
-            machine: Machine::new(sizes),
-            worker: None,
-            thieves: vec![None; sizes.thieves as usize],
+            machine,
+            worker,
+            thieves,
             margin: i64::from(sizes.margin_in_use()),
             spacing: sizes.spacing,
-            stores_since_take: None,
+            stores_since_take,
         }
     }
 
@@ -106,7 +119,6 @@ impl<T: Copy + Default> Bench<T> {
 
 /// What an onlooker may see; none of it moves anything.
 impl<T: Copy + Default> Bench<T> {
-    #[cfg(test)]
     pub(crate) fn machine(&self) -> &Machine<T> {
         &self.machine
     }
@@ -117,6 +129,10 @@ impl<T: Copy + Default> Bench<T> {
 
     pub(crate) fn thief_call(&self, thief: u32) -> Option<Steal<T>> {
         self.thieves[thief as usize]
+    }
+
+    pub(crate) fn stores_since_take(&self) -> Option<u32> {
+        self.stores_since_take
     }
 
     pub(crate) fn no_call_runs(&self) -> bool {

@@ -25,6 +25,7 @@ pub(crate) enum Put<T> {
     StoreTail { task: T },
 }
 
+/// The slot is loaded by the last step of three, or, unlocked, by that of six.
 #[derive(Debug, Clone, Copy, PartialEq, Eq)]
 pub(crate) enum Take {
     StoreTail,
@@ -35,6 +36,7 @@ pub(crate) enum Take {
     RestoreTail { t: i64 },
     UnlockForEmpty,
     UnlockForTask { t: i64 },
+    LoadSlotUnlocked { t: i64 },
 }
 
 #[derive(Debug, Clone, Copy, PartialEq, Eq)]
@@ -103,9 +105,9 @@ impl Take {
             }
             Take::UnlockForTask { t } => {
                 machine.worker_unlock()?;
-                Take::LoadSlot { t }
+                Take::LoadSlotUnlocked { t }
             }
-            Take::LoadSlot { t } => {
+            Take::LoadSlot { t } | Take::LoadSlotUnlocked { t } => {
                 return Ok(Progress::Answer(Outcome::Task(machine.worker_load(t))));
             }
         };

@@ -15,6 +15,20 @@ pub(crate) enum Entry<T> {
 }
 
 impl Entry<u32> {
+    /// What a kind byte orders, whoever the operand names; nothing above 6.
+    pub(crate) fn of_kind(kind: u8, operand: u32) -> Option<Self> {
+        match kind {
+            0 => Some(Entry::Drain),
+            1 => Some(Entry::ClientStore),
+            2 => Some(Entry::BeginPut(operand)),
+            3 => Some(Entry::BeginTake),
+            4 => Some(Entry::WorkerStep),
+            5 => Some(Entry::BeginSteal(operand)),
+            6 => Some(Entry::ThiefStep(operand)),
+            7..=255 => None,
+        }
+    }
+
     /// Makes sense of the entry that stands at `place`, or refuses the file.
     pub(crate) fn decode(
         place: u32,
@@ -22,15 +36,13 @@ impl Entry<u32> {
         operand: u32,
         thieves: u32,
     ) -> Result<Self, Refusal> {
-        let (entry, allowed) = match kind {
-            0 => (Entry::Drain, operand == 0),
-            1 => (Entry::ClientStore, operand == 0),
-            2 => (Entry::BeginPut(operand), true),
-            3 => (Entry::BeginTake, operand == 0),
-            4 => (Entry::WorkerStep, operand == 0),
-            5 => (Entry::BeginSteal(operand), operand < thieves),
-            6 => (Entry::ThiefStep(operand), operand < thieves),
-            7..=255 => return Err(Refusal::kind(place)),
+        let entry = Entry::of_kind(kind, operand).ok_or(Refusal::kind(place))?;
+        let allowed = match entry {
+            Entry::BeginPut(_) => true,
+            Entry::BeginSteal(thief) | Entry::ThiefStep(thief) => thief < thieves,
+            Entry::Drain | Entry::ClientStore | Entry::BeginTake | Entry::WorkerStep => {
+                operand == 0
+            }
         };
         if allowed {
             Ok(entry)

@@ -23,7 +23,7 @@ pub struct Schedule {
 pub fn read(file: &[u8]) -> Result<Schedule, Refusal> {
     let (sizes, kinds, operands) = split(file)?;
     let operands: Vec<u32> = words(operands).collect();
-    check_entries(&sizes, kinds, &operands)?;
+    check_entries(&sizes, kinds, operands.iter().copied())?;
     Ok(Schedule {
         sizes,
         kinds: kinds.to_vec(),
@@ -45,7 +45,7 @@ pub fn write(
     if operands.len() != kinds.len() {
         return Err(Refusal::SHORT);
     }
-    check_entries(sizes, kinds, operands)?;
+    check_entries(sizes, kinds, operands.iter().copied())?;
     let length = HEADER + PER_ENTRY * kinds.len();
     let file = file.get_mut(..length).ok_or(Refusal::ROOM)?;
 
@@ -56,6 +56,35 @@ pub fn write(
     kind_bytes.copy_from_slice(kinds);
     put_words(operand_bytes, operands.iter().copied());
     Ok(length)
+}
+
+/// The kind bytes and the operand bytes of a schedule file, as they stand in
+/// it; of a file that [`read`] refuses, two empty parts.
+pub fn parts(file: &[u8]) -> (&[u8], &[u8]) {
+    let accepted = split(file).and_then(|(sizes, kinds, operands)| {
+        check_entries(&sizes, kinds, words(operands))?;
+        Ok((kinds, operands))
+    });
+    accepted.unwrap_or_default()
+}
+
+/// The kind and the operand at a place of two parallel arrays, the operands
+/// as four bytes each, or what is wrong there.
+///
+/// The arrays may have any lengths, and they need not be the same: a place
+/// that is not in both is SHORT.
+pub fn entry_at(
+    kinds: &[u8],
+    operands: &[u8],
+    thieves: u32,
+    place: u32,
+) -> Result<(u8, u32), Refusal> {
+    let kind = *kinds.get(place as usize).ok_or(Refusal::SHORT)?;
+    let (operands, _) = operands.as_chunks::<4>();
+    let operand = *operands.get(place as usize).ok_or(Refusal::SHORT)?;
+    let operand = u32::from_le_bytes(operand);
+    Entry::decode(place, kind, operand, thieves)?;
+    Ok((kind, operand))
 }
 
 /// Reads a schedule file into the orders it gives.
@@ -84,8 +113,12 @@ fn split(file: &[u8]) -> Result<(Sizes, &[u8], &[u8]), Refusal> {
     Ok((sizes, kinds, operands))
 }
 
-fn check_entries(sizes: &Sizes, kinds: &[u8], operands: &[u32]) -> Result<(), Refusal> {
-    decode_entries(sizes, kinds, operands.iter().copied()).try_for_each(|entry| entry.map(drop))
+fn check_entries<'a>(
+    sizes: &'a Sizes,
+    kinds: &'a [u8],
+    operands: impl Iterator<Item = u32> + 'a,
+) -> Result<(), Refusal> {
+    decode_entries(sizes, kinds, operands).try_for_each(|entry| entry.map(drop))
 }
 
 /// The entries in order, each with its own verdict.

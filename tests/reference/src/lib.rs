@@ -5,6 +5,10 @@
 //! it and leaves a trace, [`lines`] says the same in text, [`alike`] compares
 //! what two schedules answer, and [`plain_queue::judge`] holds the answers
 //! against a queue that has no late stores at all.
+//!
+//! Smaller questions have answers of their own: [`step_of_image`] makes one
+//! step on any machine, also one out of range, [`entry_at`] says what stands at
+//! a place of two arrays, and [`parts`] cuts a file into its arrays.
 
 #![forbid(unsafe_code)]
 
@@ -13,6 +17,7 @@ mod bench;
 mod calls;
 mod entry;
 mod format;
+mod image;
 mod lines;
 mod machine;
 mod outcome;
@@ -24,7 +29,8 @@ mod sizes;
 mod trace;
 
 pub use alike::alike;
-pub use format::{read, write, Schedule};
+pub use format::{entry_at, parts, read, write, Schedule};
+pub use image::{fresh_image, step_of_image, IMAGE_BYTES};
 pub use lines::lines;
 pub use outcome::Totals;
 pub use refusal::Refusal;

@@ -13,8 +13,10 @@ pub(crate) struct Wait;
 
 /// A store of the worker on its way to memory.
 #[derive(Debug, Clone, Copy)]
-enum Store<T> {
+pub(crate) enum Store<T> {
     Slot {
+        index: i64,
+        /// Where the index lies, worked out once for all loads to come.
         slot: usize,
         task: T,
     },
@@ -23,12 +25,18 @@ enum Store<T> {
     Client,
 }
 
+/// What all parties share.
+#[derive(Debug, Clone)]
+pub(crate) struct Memory<T> {
+    pub(crate) slots: Vec<T>,
+    pub(crate) head: i64,
+    pub(crate) tail: i64,
+    pub(crate) locked: bool,
+}
+
 #[derive(Debug, Clone)]
 pub(crate) struct Machine<T> {
-    slots: Vec<T>,
-    head: i64,
-    tail: i64,
-    locked: bool,
+    memory: Memory<T>,
     /// The store buffer, oldest first; `buffer` is its capacity.
     pending: VecDeque<Store<T>>,
     buffer: usize,
@@ -36,12 +44,20 @@ pub(crate) struct Machine<T> {
 
 impl<T: Copy + Default> Machine<T> {
     pub(crate) fn new(sizes: &Sizes) -> Self {
-        let buffer = sizes.buffer as usize;
-        Machine {
+        let memory = Memory {
             slots: vec![T::default(); sizes.slots as usize],
             head: i64::from(sizes.start),
             tail: i64::from(sizes.start),
             locked: false,
+        };
+        Machine::with_memory(memory, sizes)
+    }
+
+    /// A machine that finds its memory as it is, with nothing pending.
+    pub(crate) fn with_memory(memory: Memory<T>, sizes: &Sizes) -> Self {
+        let buffer = sizes.buffer as usize;
+        Machine {
+            memory,
             pending: VecDeque::with_capacity(buffer),
             buffer,
         }
@@ -50,20 +66,29 @@ impl<T: Copy + Default> Machine<T> {
     /// Lets the store that has waited longest arrive.
     pub(crate) fn drain(&mut self) -> Result<(), Wait> {
         match self.pending.pop_front().ok_or(Wait)? {
-            Store::Slot { slot, task } => self.slots[slot] = task,
-            Store::Tail(tail) => self.tail = tail,
+            Store::Slot { slot, task, .. } => self.memory.slots[slot] = task,
+            Store::Tail(tail) => self.memory.tail = tail,
             Store::Client => {}
         }
         Ok(())
     }
 
     pub(crate) fn slot_count(&self) -> i64 {
-        self.slots.len() as i64
+        self.memory.slots.len() as i64
     }
 
     /// The head is the same for everybody, since no store to it is ever late.
     pub(crate) fn head(&self) -> i64 {
-        self.head
+        self.memory.head
+    }
+
+    pub(crate) fn memory(&self) -> &Memory<T> {
+        &self.memory
+    }
+
+    /// The stores on their way, oldest first.
+    pub(crate) fn pending(&self) -> impl ExactSizeIterator<Item = Store<T>> + '_ {
+        self.pending.iter().copied()
     }
 
     fn slot_of(&self, index: i64) -> usize {
@@ -78,21 +103,21 @@ impl<T: Copy + Default> Machine<T> {
             Store::Tail(tail) => Some(tail),
             _ => None,
         });
-        newest.unwrap_or(self.tail)
+        newest.unwrap_or(self.memory.tail)
     }
 
     pub(crate) fn worker_load(&self, index: i64) -> T {
         let wanted = self.slot_of(index);
         let newest = self.pending.iter().rev().find_map(|store| match *store {
-            Store::Slot { slot, task } if slot == wanted => Some(task),
+            Store::Slot { slot, task, .. } if slot == wanted => Some(task),
             _ => None,
         });
-        newest.unwrap_or(self.slots[wanted])
+        newest.unwrap_or(self.memory.slots[wanted])
     }
 
     pub(crate) fn worker_store(&mut self, index: i64, task: T) -> Result<(), Wait> {
         let slot = self.slot_of(index);
-        self.push(Store::Slot { slot, task })
+        self.push(Store::Slot { index, slot, task })
     }
 
     pub(crate) fn worker_store_tail(&mut self, tail: i64) -> Result<(), Wait> {
@@ -135,26 +160,26 @@ impl<T: Copy + Default> Machine<T> {
 /// The lock, and the thief's side: loads and stores go straight to memory.
 impl<T: Copy + Default> Machine<T> {
     pub(crate) fn lock(&mut self) -> Result<(), Wait> {
-        if self.locked {
+        if self.memory.locked {
             return Err(Wait);
         }
-        self.locked = true;
+        self.memory.locked = true;
         Ok(())
     }
 
     pub(crate) fn unlock(&mut self) {
-        self.locked = false;
+        self.memory.locked = false;
     }
 
     pub(crate) fn set_head(&mut self, head: i64) {
-        self.head = head;
+        self.memory.head = head;
     }
 
     pub(crate) fn memory_tail(&self) -> i64 {
-        self.tail
+        self.memory.tail
     }
 
     pub(crate) fn memory_load(&self, index: i64) -> T {
-        self.slots[self.slot_of(index)]
+        self.memory.slots[self.slot_of(index)]
     }
 }

@@ -60,6 +60,18 @@ pub struct Totals {
 }
 
 impl Totals {
+    pub(crate) fn from_printed_order([given, aborts, waits]: [u32; 3]) -> Totals {
+        Totals {
+            given,
+            aborts,
+            waits,
+        }
+    }
+
+    pub(crate) fn in_printed_order(&self) -> [u32; 3] {
+        [self.given, self.aborts, self.waits]
+    }
+
     pub(crate) fn count<T>(&mut self, outcome: &Outcome<T>) {
         let total = match outcome {
             Outcome::Task(_) => &mut self.given,

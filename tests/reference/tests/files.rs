@@ -5,7 +5,7 @@ mod common;
 
 use common::{file, Dice, SIZES};
 use reference::plain_queue::judge;
-use reference::{alike, lines, read, run, write, Refusal, Sizes, Totals};
+use reference::{alike, entry_at, lines, parts, read, run, write, Refusal, Sizes, Totals};
 
 const SHORT: Refusal = refusal(2, 0);
 const ROOM: Refusal = refusal(8, 0);
@@ -22,6 +22,7 @@ fn assert_refused(file: &[u8], expected: Refusal) {
     assert_eq!(run(file, &mut []), Err(expected), "ROOM comes last");
     assert_eq!(trace, [0xee; 64]);
     assert_eq!(judge(file), Err(expected));
+    assert_eq!(parts(file), (&[][..], &[][..]));
     let line = format!("refused {} place {}\n", expected.number, expected.place);
     assert_eq!(lines(file), line);
 
@@ -200,6 +201,9 @@ fn what_is_written_is_read_again() {
         );
         assert_eq!(written[..by_hand.len()], by_hand);
         assert_eq!(written[by_hand.len()..], [0xee; 3]);
+        let (kind_part, operand_part) = parts(&by_hand);
+        assert_eq!(kind_part, &by_hand[28..28 + count]);
+        assert_eq!(operand_part, &by_hand[28 + count..]);
         let schedule = read(&by_hand).unwrap();
         assert_eq!(schedule.sizes, sizes);
         assert_eq!((schedule.kinds, schedule.operands), (kinds, operands));
@@ -226,4 +230,59 @@ fn the_writer_refuses_in_the_readers_order() {
     assert_eq!(write(&SIZES, &[0, 6, 9], &[0, 1, 0], 0), refusal(4, 1));
     assert_eq!(write(&SIZES, &[0, 6], &[0, 0], 37), ROOM);
     assert_eq!(write(&SIZES, &[], &[], 27), ROOM);
+}
+
+#[test]
+fn parts_stand_in_the_file_itself() {
+    let file = file(SIZES, &[(2, 0x0102_0304), (4, 0), (6, 0)]);
+    let (kinds, operands) = parts(&file);
+    assert_eq!(kinds, [2, 4, 6]);
+    assert_eq!(operands, [4, 3, 2, 1, 0, 0, 0, 0, 0, 0, 0, 0]);
+    assert_eq!(kinds.as_ptr(), file[28..].as_ptr());
+    assert_eq!(operands.as_ptr(), file[31..].as_ptr());
+    assert_eq!(parts(&common::file(SIZES, &[])), (&[][..], &[][..]));
+}
+
+#[test]
+fn an_entry_stands_in_both_arrays() {
+    let operands = [4, 3, 2, 1, 1, 0, 0, 0, 9];
+    let at = |kinds: &[u8], length: usize, place| entry_at(kinds, &operands[..length], 2, place);
+    assert_eq!(at(&[2, 6], 8, 0), Ok((2, 0x0102_0304)));
+    assert_eq!(at(&[2, 6], 8, 1), Ok((6, 1)));
+    assert_eq!(at(&[2, 6], 8, 2), Err(SHORT));
+    assert_eq!(at(&[2, 6, 0], 8, 2), Err(SHORT));
+    assert_eq!(at(&[2, 6, 9], 9, 2), Err(SHORT), "a third of one byte");
+    assert_eq!(at(&[2, 6], 7, 1), Err(SHORT), "a second of three bytes");
+    assert_eq!(at(&[2, 6], 7, 0), Ok((2, 0x0102_0304)));
+    assert_eq!(at(&[2], 8, 1), Err(SHORT));
+    assert_eq!(at(&[], 8, 0), Err(SHORT));
+    assert_eq!(at(&[2], 0, 0), Err(SHORT));
+    assert_eq!(at(&[2, 6], 8, u32::MAX), Err(SHORT));
+}
+
+#[test]
+fn an_entry_is_judged_by_itself() {
+    let at = |kind: u8, operand: u32, thieves, place: u32| {
+        let kinds = [&vec![9; place as usize][..], &[kind]].concat();
+        let operands = [&vec![0xff; 4 * place as usize][..], &operand.to_le_bytes()].concat();
+        entry_at(&kinds, &operands, thieves, place)
+    };
+    for place in [0, 1, 5000] {
+        for kind in [0, 1, 3, 4] {
+            assert_eq!(at(kind, 0, 1, place), Ok((kind, 0)));
+            assert_eq!(at(kind, 1 << 24, 1, place), Err(refusal(4, place)));
+        }
+        assert_eq!(at(2, u32::MAX, 0, place), Ok((2, u32::MAX)));
+        for kind in [5, 6] {
+            for thieves in [1, 8, 9, u32::MAX] {
+                let last = thieves - 1;
+                assert_eq!(at(kind, last, thieves, place), Ok((kind, last)));
+                assert_eq!(at(kind, thieves, thieves, place), Err(refusal(4, place)));
+            }
+            assert_eq!(at(kind, 0, 0, place), Err(refusal(4, place)));
+        }
+        for kind in 7..=255 {
+            assert_eq!(at(kind, 1, 1, place), Err(refusal(3, place)));
+        }
+    }
 }

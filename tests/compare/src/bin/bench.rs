@@ -4,11 +4,10 @@
 use std::hint::black_box;
 use std::time::{Duration, Instant};
 
-use comparing::checks::trace_room;
-use comparing::generate::{flavoured, Flavour, BALANCED, CROWDED, LATE, STUBBORN};
+use comparing::generate::{flavour, flavoured, lean, Flavour};
 use comparing::random::Random;
-use comparing::schedule::number_at;
-use comparing::sides::{Side, PROVED, REFERENCE};
+use comparing::schedule::{number_at, trace_room};
+use comparing::sides::{Side, PROVED, REFERENCE, TOTALS_ROOM};
 
 const LENGTHS: [usize; 5] = [256, 512, 1024, 2048, 4096];
 /// Odd, so that the median is one of the rounds.
@@ -26,26 +25,28 @@ struct Load {
     flavour: Flavour,
 }
 
+/// These are not the comparison's flavours, which may change: figures are
+/// compared over time.
 const LOADS: [Load; 4] = [
     Load {
         name: "balanced",
         sizes: [64, 8, 0, 0, 2, 0],
-        flavour: BALANCED,
+        flavour: flavour(&[lean(145, 340, 450)], 4, 30),
     },
     Load {
         name: "deep buffer",
         sizes: [256, 64, 1, 0, 1, 0],
-        flavour: LATE,
+        flavour: flavour(&[lean(40, 150, 500)], 3, 15),
     },
     Load {
         name: "many thieves",
         sizes: [64, 4, 0, 0, 8, 0],
-        flavour: CROWDED,
+        flavour: flavour(&[lean(60, 840, 450)], 2, 70),
     },
     Load {
         name: "waits",
         sizes: [16, 1, 0, 0, 4, 0],
-        flavour: STUBBORN,
+        flavour: flavour(&[lean(40, 340, 450)], 4, 430),
     },
 ];
 
@@ -55,7 +56,7 @@ struct Measured {
     entries: usize,
     /// Entries that wait, out of a hundred.
     waits: f64,
-    /// Nanoseconds an entry, a round each.
+    /// Nanoseconds an entry, and their ratio, a round each in rising order.
     proved: Vec<f64>,
     reference: Vec<f64>,
     ratios: Vec<f64>,
@@ -72,8 +73,7 @@ fn main() {
         }
     }
     print_growth(&all);
-    let mut ratios: Vec<f64> = all.iter().map(|one| median(&one.ratios)).collect();
-    ratios.sort_by(f64::total_cmp);
+    let ratios = sorted(all.iter().map(|one| median(&one.ratios)));
     println!(
         "median ratio over all loads and lengths: {:.2} (proved time / reference time)",
         median(&ratios)
@@ -108,38 +108,30 @@ fn print_head() {
 /// The median time between two readings of the clock with nothing in between.
 fn clock_cost() -> f64 {
     let readings = (0..1001).map(|_| Instant::now().elapsed().as_nanos() as f64);
-    median(&readings.collect::<Vec<_>>())
+    median(&sorted(readings))
 }
 
 fn measure(load: &Load, entries: usize) -> Measured {
     let files = files(load, entries);
     let waits: u32 = files.iter().map(|file| check(file, entries)).sum();
-    for side in [&PROVED, &REFERENCE] {
-        round(side, &files, entries, WARM_UP);
-    }
-    let mut measured = Measured {
+    let both = |least| [&PROVED, &REFERENCE].map(|side| round(side, &files, entries, least));
+    both(WARM_UP);
+    let rounds: Vec<[f64; 2]> = (0..ROUNDS).map(|_| both(ROUND)).collect();
+    Measured {
         load: load.name,
         entries,
         waits: 100.0 * f64::from(waits) / ENTRIES_TOGETHER as f64,
-        proved: Vec::new(),
-        reference: Vec::new(),
-        ratios: Vec::new(),
-    };
-    for _ in 0..ROUNDS {
-        let proved = round(&PROVED, &files, entries, ROUND);
-        let reference = round(&REFERENCE, &files, entries, ROUND);
-        measured.proved.push(proved);
-        measured.reference.push(reference);
-        measured.ratios.push(proved / reference);
+        proved: sorted(rounds.iter().map(|round| round[0])),
+        reference: sorted(rounds.iter().map(|round| round[1])),
+        ratios: sorted(rounds.iter().map(|round| round[0] / round[1])),
     }
-    measured
 }
 
 /// The same files at every run of this program.
 fn files(load: &Load, entries: usize) -> Vec<Vec<u8>> {
     let mut random = Random::new(entries as u64);
+    let mut file = || flavoured(load.sizes, &load.flavour, entries, &mut random).bytes();
     let count = ENTRIES_TOGETHER / entries;
-    let mut file = || flavoured(load.sizes, load.flavour, entries, &mut random).bytes();
     (0..count).map(|_| file()).collect()
 }
 
@@ -147,7 +139,7 @@ fn files(load: &Load, entries: usize) -> Vec<Vec<u8>> {
 fn check(file: &[u8], entries: usize) -> u32 {
     let run = |side: &Side| {
         let mut trace = vec![0xA5; trace_room(entries)];
-        let mut totals = [0xA5; 12];
+        let mut totals = [0xA5; TOTALS_ROOM];
         let answer = (side.run)(file, &mut trace, &mut totals);
         assert!(!answer.is_refused(), "{} refuses the load", side.name);
         (trace, totals)
@@ -161,7 +153,7 @@ fn check(file: &[u8], entries: usize) -> u32 {
 /// entry.
 fn round(side: &Side, files: &[Vec<u8>], entries: usize, least: Duration) -> f64 {
     let mut trace = vec![0; trace_room(entries)];
-    let mut totals = [0; 12];
+    let mut totals = [0; TOTALS_ROOM];
     let mut spent = Duration::ZERO;
     let mut runs = 0;
     while spent < least {
@@ -180,10 +172,8 @@ fn round(side: &Side, files: &[Vec<u8>], entries: usize, least: Duration) -> f64
 
 fn print_row(one: &Measured) {
     let (proved, reference) = (median(&one.proved), median(&one.reference));
-    let least = one.ratios.iter().copied().fold(f64::INFINITY, f64::min);
-    let most = one.ratios.iter().copied().fold(0.0, f64::max);
     println!(
-        "{:<13}{:>8}{:>8.1}{:>11.1}{:>11.1}{:>10.2}{:>10.2}{:>8.2}  {least:.2} to {most:.2}",
+        "{:<13}{:>8}{:>8.1}{:>11.1}{:>11.1}{:>10.2}{:>10.2}{:>8.2}  {:.2} to {:.2}",
         one.load,
         one.entries,
         one.waits,
@@ -192,6 +182,8 @@ fn print_row(one: &Measured) {
         1000.0 / proved,
         1000.0 / reference,
         median(&one.ratios),
+        one.ratios[0],
+        one.ratios[ROUNDS - 1],
     );
 }
 
@@ -220,8 +212,13 @@ fn growth_row(of_load: &[Measured], side: &str, figure: impl Fn(&Measured) -> f6
     println!("{:>9.2}", figures[figures.len() - 1] / figures[0]);
 }
 
-fn median(figures: &[f64]) -> f64 {
-    let mut sorted = figures.to_vec();
+fn sorted(figures: impl Iterator<Item = f64>) -> Vec<f64> {
+    let mut sorted: Vec<f64> = figures.collect();
     sorted.sort_by(f64::total_cmp);
-    sorted[sorted.len() / 2]
+    sorted
+}
+
+/// Of figures in rising order.
+fn median(figures: &[f64]) -> f64 {
+    figures[figures.len() / 2]
 }

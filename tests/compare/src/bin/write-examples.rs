@@ -1,18 +1,17 @@
-//! Writes the files of `examples/`, into the directory that is named or, with
-//! none named, into `examples` where it is run.
+//! Writes the rehearsals as the files of `examples/`, into the directory that is
+//! named or, with none named, into `examples` where it is run.
 
 use std::path::PathBuf;
 use std::{env, fs, io};
 
-use comparing::examples;
+use comparing::rehearsals;
 
 fn main() -> io::Result<()> {
     let named = env::args_os().nth(1);
     let directory = named.map_or_else(|| PathBuf::from("examples"), PathBuf::from);
     fs::create_dir_all(&directory)?;
-    for example in examples::all() {
-        let path = directory.join(example.name).with_extension("schedule");
-        fs::write(path, example.file)?;
+    for told in rehearsals::all() {
+        fs::write(directory.join(told.file_name()), told.script.draft.bytes())?;
     }
     Ok(())
 }

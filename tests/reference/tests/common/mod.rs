@@ -1,6 +1,8 @@
-//! What the tests share: schedules from lists of entries, and a small
-//! generator of random ones.
+//! What the tests share: schedules from lists of entries, a small generator of
+//! random ones, and machines as rows of numbers.
 #![allow(dead_code)] // every test file uses its own part of this
+
+pub mod row;
 
 use reference::Sizes;
 

@@ -1,5 +1,6 @@
 //! Takes rehearsals, edges, random and damaged files through both
-//! implementations, and through the program, until something differs.
+//! implementations, and through the program, and machines, arrays and files
+//! through single functions of both, until something differs.
 //!
 //! Exit status 0: everything agrees and every outcome and refusal came up;
 //! 1: something differs or never came up; 2: the command line is wrong.
@@ -12,7 +13,7 @@ use std::time::Instant;
 
 use comparing::campaign;
 use comparing::report::{print_failure, print_table};
-use comparing::spread::guarded;
+use comparing::spread::{guarded, Failure};
 use comparing::tally::Tally;
 
 use options::{options, Options, USAGE};
@@ -42,8 +43,7 @@ fn only(options: &Options, case: u64) -> Result<ExitCode, Found> {
     let work = || campaign::case(options.seed, case, &mut Tally::default());
     guarded(work).map_err(|disagreement| Found {
         part: RANDOM,
-        case: Some(case),
-        disagreement,
+        failure: Failure { case, disagreement },
     })?;
     println!("case {case} agrees");
     Ok(ExitCode::SUCCESS)
@@ -51,16 +51,24 @@ fn only(options: &Options, case: u64) -> Result<ExitCode, Found> {
 
 fn everything(options: &Options) -> Result<ExitCode, Found> {
     let started = Instant::now();
-    let mut parts = parts::fixed()?;
+    let mut parts = parts::lists(options)?;
     parts.extend(parts::program(options)?);
+    let (operations, steps) = parts::operations(options)?;
+    parts.extend(operations);
     let (random, tally) = parts::random(options)?;
     parts.push(random);
-    print_table(&parts, &tally);
+    print_table(&parts, &steps, &tally);
     println!("seconds {:.1}", started.elapsed().as_secs_f64());
     // Agreement is worth something only if everything came up.
-    let missing = tally.missing();
-    if options.cases > 0 && !missing.is_empty() {
-        println!("never seen in random cases: {}", missing.join(", "));
+    let mut missing = vec![("single steps", steps.missing_steps())];
+    if options.cases > 0 {
+        missing.push((RANDOM, tally.missing()));
+    }
+    missing.retain(|(_, names)| !names.is_empty());
+    if !missing.is_empty() {
+        for (part, names) in missing {
+            println!("never seen in {part}: {}", names.join(", "));
+        }
         return Ok(ExitCode::from(1));
     }
     let cases: u64 = parts.iter().map(|part| part.cases).sum();
@@ -69,17 +77,14 @@ fn everything(options: &Options) -> Result<ExitCode, Found> {
 }
 
 fn report(options: &Options, found: &Found) {
-    let seed = options.seed;
-    // Parts other than the random cases are short and repeated whole.
-    let program = options.program.display();
-    let whole = format!("compare --seed {seed} --cases 0 --program {program}");
-    let (part, again) = match found.case {
-        Some(case) if found.part == RANDOM => (
-            format!("{RANDOM}, case {case}"),
-            format!("compare --seed {seed} --only {case}"),
-        ),
-        Some(case) => (format!("{}, number {case}", found.part), whole),
-        None => (found.part.to_string(), whole),
+    let (seed, case) = (options.seed, found.failure.case);
+    let again = if found.part == RANDOM {
+        format!("compare --seed {seed} --only {case}")
+    } else {
+        // The other parts are short and repeated whole.
+        let (program, operations) = (options.program.display(), options.operations.display());
+        format!("compare --seed {seed} --cases 0 --program {program} --operations {operations}")
     };
-    print_failure(&part, &again, &found.disagreement);
+    let part = format!("{}, case {case}", found.part);
+    print_failure(&part, &again, &found.failure.disagreement);
 }

@@ -5,14 +5,16 @@ use std::ffi::OsStr;
 use std::path::PathBuf;
 use std::time::{SystemTime, UNIX_EPOCH};
 
-pub const USAGE: &str =
-    "usage: compare [--seed N] [--cases N] [--program PATH] [--only CASE] [EXAMPLE...]";
+pub const USAGE: &str = "usage: compare [--seed N] [--cases N] [--program PATH] \
+     [--operations PATH] [--only CASE] [EXAMPLE...]";
 
 pub struct Options {
     pub seed: u64,
     /// How many random cases.
     pub cases: u64,
     pub program: PathBuf,
+    /// The program that calls single functions.
+    pub operations: PathBuf,
     /// Nothing but this random case.
     pub only: Option<u64>,
     /// Files to take through everything, beside those of `examples/`.
@@ -24,6 +26,7 @@ pub fn options() -> Result<Options, String> {
         seed: clock_seed(),
         cases: 200_000,
         program: PathBuf::from("target/bin/rehearse"),
+        operations: PathBuf::from("target/bin/operations"),
         only: None,
         examples: Vec::new(),
     };
@@ -35,6 +38,7 @@ pub fn options() -> Result<Options, String> {
             Some("--cases") => options.cases = number(&value()?)?,
             Some("--only") => options.only = Some(number(&value()?)?),
             Some("--program") => options.program = value()?.into(),
+            Some("--operations") => options.operations = value()?.into(),
             Some(other) if other.starts_with("--") => return Err(format!("unknown {other}")),
             _ => options.examples.push(argument.into()),
         }

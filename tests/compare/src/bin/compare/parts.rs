@@ -1,16 +1,24 @@
 //! The parts of a whole comparison, each a list of cases.
 
 use std::fs;
-use std::path::Path;
+use std::path::{Path, PathBuf};
 use std::time::Instant;
 
+use comparing::arrays::Arrays;
 use comparing::checks::{Disagreement, Verdict};
-use comparing::examples::Example;
+use comparing::edges::Edge;
+use comparing::likeness::{all_resized, hold_resized};
+use comparing::plain::{hold_short, short_margins};
 use comparing::program::{overlong, random_file, Feed, Program};
+use comparing::random::Random;
+use comparing::rehearsals::{Rehearsal, EXAMPLE_LINES};
 use comparing::report::Part;
+use comparing::rooms::Rooms;
+use comparing::single::{edge_files, Single};
 use comparing::spread::{spread, Failure};
 use comparing::tally::Tally;
-use comparing::{campaign, damage, edges, examples, plain, rehearsals, rooms, writer};
+use comparing::writer::Written;
+use comparing::{campaign, damage, edges, limits, machines, rehearsals, rooms, steps, writer};
 
 use crate::options::Options;
 
@@ -18,132 +26,156 @@ use crate::options::Options;
 pub const RANDOM: &str = "random cases";
 /// Random files that the program is given, half of them damaged.
 const PROGRAM_FILES: u64 = 600;
+/// Machines that schedules lead to, and any others.
+const REACHED: u64 = 2000;
+const ANY: u64 = 4000;
+/// Machines whose parts are put to the edges, one at a time.
+const BASES: u64 = 4;
+/// Arrays with an entry, a multiple of the number of kind bytes.
+const ARRAYS: u64 = 40 * 256;
+/// Random files for single functions, half of them damaged.
+const SINGLE_FILES: u64 = 3000;
 
-/// A disagreement, the part it was found in, and its number there.
+/// A disagreement and the part it was found in.
 pub struct Found {
     pub part: &'static str,
-    pub case: Option<u64>,
-    pub disagreement: Disagreement,
+    pub failure: Failure,
 }
 
-/// Whatever needs neither a seed nor the program.
-pub fn fixed() -> Result<Vec<Part>, Found> {
+/// The libraries on lists of cases.
+pub fn lists(options: &Options) -> Result<Vec<Part>, Found> {
     // Margins aren't files, so they are compared and not counted.
-    alone("needed margins", || rehearsals::hold_margins().map(|()| 0))?;
+    each("needed margins", &[()], |(), _| rehearsals::hold_margins())?;
     let told = rehearsals::all();
-    let edges = edges::files();
-    let witnesses = plain::witnesses();
+    let drafts = || told.iter().map(|one| &one.script.draft);
+    let resized: Vec<_> = drafts().flat_map(all_resized).collect();
+    let damaged = drafts().flat_map(|draft| damage::samples(&draft.bytes()));
+    let damaged: Vec<_> = damaged.collect();
+    let short = short_margins(options.seed);
+    let file = |file: &Vec<u8>, tally: &mut Tally| campaign::file(file, tally);
     Ok(vec![
-        each("rehearsals and the example", &told, |one, tally| {
-            one.hold(tally)
-        })?,
-        each("edges of files", &edges, |one, tally| one.hold(tally))?,
-        alone("edges of lent memory", rooms::hold)?,
-        alone("edges of the writer", writer::hold)?,
-        every_damage()?,
-        each("margins below the needed one", &witnesses, |one, tally| {
-            one.hold(tally)
-        })?,
+        each("rehearsals", &told, Rehearsal::hold)?,
+        each("rehearsals, bytes changed and cuts", &damaged, file)?,
+        each("rehearsals, pairs one size apart", &resized, hold_resized)?,
+        each("edges of files", &edges::files(), Edge::hold)?,
+        each("edges of lent memory", &rooms::all(), Rooms::hold)?,
+        each("edges of the writer", &writer::edges(), Written::hold)?,
+        each("margins below the needed one", &short, hold_short)?,
     ])
 }
 
 /// The random cases; their tally shows what the generator reaches.
 pub fn random(options: &Options) -> Result<(Part, Tally), Found> {
-    let (seed, cases) = (options.seed, options.cases);
-    let work = |case, tally: &mut Tally| campaign::case(seed, case, tally);
-    let started = Instant::now();
-    let tally = spread(cases, work).map_err(|failure| in_part(RANDOM, failure))?;
-    Ok((done(RANDOM, cases, started), tally))
+    let work = |case, tally: &mut Tally| campaign::case(options.seed, case, tally);
+    part(RANDOM, options.cases, work)
 }
 
-/// Every byte of some small files set to every value, and every cut.
-fn every_damage() -> Result<Part, Found> {
-    const NAME: &str = "small files, every byte and cut";
-    let started = Instant::now();
-    let mut cases = 0;
-    for told in rehearsals::all() {
-        if !["example", "M4", "M8"].contains(&told.name) {
-            continue;
-        }
-        let file = told.script.draft.bytes();
-        let count = damage::count(file.len());
-        let work = |number, tally: &mut Tally| {
-            campaign::file(&damage::every(&file, number), number, tally)
-        };
-        spread(count, work).map_err(|failure| in_part(NAME, failure))?;
-        cases += count;
-    }
-    Ok(done(NAME, cases, started))
-}
-
-/// Everything that goes through the program.
+/// The program.
 pub fn program(options: &Options) -> Result<Vec<Part>, Found> {
     let program = Program::new(&options.program);
+    let example = rehearsals::example().draft.bytes();
     let told = rehearsals::all();
-    let told: Vec<_> = told.iter().map(|one| one.script.draft.bytes()).collect();
     let edges: Vec<_> = edges::files().into_iter().map(|edge| edge.file).collect();
-    let numbers = 0..PROGRAM_FILES;
-    let random: Vec<_> = numbers
-        .map(|number| random_file(options.seed, number))
-        .collect();
-    let both = |file: &Vec<u8>, _: &mut Tally| {
-        program.compare(file, Feed::AtOnce)?;
-        program.compare(file, Feed::InPieces)
-    };
+    let files = (0..PROGRAM_FILES).map(|number| random_file(options.seed, number));
+    let random: Vec<_> = files.collect();
+
+    let own = |lines: &&str, _: &mut Tally| program.hold(&example, Feed::AtOnce, lines);
+    let stored = |one: &Rehearsal, _: &mut Tally| program.compare_both(&stored_rehearsal(one)?);
     let once = |file: &Vec<u8>, _: &mut Tally| program.compare(file, Feed::AtOnce);
+    let both = |file: &Vec<u8>, _: &mut Tally| program.compare_both(file);
+    let named = |path: &PathBuf, tally: &mut Tally| {
+        let file = read(path)?;
+        campaign::file(&file, tally)?;
+        program.compare(&file, Feed::AtOnce)
+    };
     Ok(vec![
-        alone("program: the example's own lines", || {
-            example_lines(&program)
-        })?,
-        each("program: rehearsals", &told, both)?,
+        each("program: the example's lines", &[EXAMPLE_LINES], own)?,
+        each("program: rehearsals, as stored", &told, stored)?,
         each("program: edges of files", &edges, once)?,
         each("program: overlong inputs", &overlong(), both)?,
         each("program: random and damaged files", &random, once)?,
-        each("program: examples", &examples::all(), |one, tally| {
-            example(&program, one, tally)
-        })?,
-        each("program: files named", &options.examples, |path, tally| {
-            named_file(&program, path, tally)
-        })?,
+        each("program: files named", &options.examples, named)?,
     ])
 }
 
-/// The program and the reference against the lines that are given.
-fn example_lines(program: &Program) -> Result<u64, Disagreement> {
-    let file = rehearsals::example().draft.bytes();
-    program.hold(&file, Feed::AtOnce, rehearsals::EXAMPLE_LINES)?;
-    program.compare(&file, Feed::AtOnce)?;
-    Ok(1)
+/// Single functions of the libraries; the tally shows what the steps reach.
+pub fn operations(options: &Options) -> Result<(Vec<Part>, Tally), Found> {
+    let single = Single::new(&options.operations);
+    let (mut parts, tally) = single_steps(&single, options.seed)?;
+    parts.extend(single_functions(&single, options.seed)?);
+    Ok((parts, tally))
 }
 
-/// An example: the stored file is the one that is told, its entries get what
-/// is told of them, and the program prints that.
-fn example(program: &Program, example: &Example, tally: &mut Tally) -> Verdict {
-    let path = Path::new("examples")
-        .join(example.name)
-        .with_extension("schedule");
-    if stored(&path)? != example.file {
-        let what = format!("{} is not the file that is told", path.display());
-        return Err(Disagreement::without_file(what));
+fn single_steps(single: &Single, seed: u64) -> Result<(Vec<Part>, Tally), Found> {
+    let bases = (0..BASES).map(|base| machines::reached(&mut Random::of_case(seed, base)));
+    let limits: Vec<_> = bases.flat_map(limits::around).collect();
+    let totals = steps::all_totals(&mut Random::new(seed));
+
+    let reached = |case, tally: &mut Tally| {
+        let random = &mut Random::of_case(seed, case);
+        steps::examine(&machines::reached(random), single, random, tally).map(drop)
+    };
+    let limited = |case, tally: &mut Tally| {
+        let random = &mut Random::of_case(seed, case);
+        steps::hold_limit(&limits[case as usize], single, random, tally)
+    };
+    let any = |case, tally: &mut Tally| {
+        let random = &mut Random::of_case(seed, case);
+        steps::examine(&machines::any(random), single, random, tally).map(drop)
+    };
+    let counted =
+        |case, tally: &mut Tally| steps::hold_totals(totals[case as usize], single, tally);
+    let rows = [
+        part("operations: machines of schedules", REACHED, reached)?,
+        part(
+            "operations: machines at an edge",
+            limits.len() as u64,
+            limited,
+        )?,
+        part("operations: any machines", ANY, any)?,
+        part("operations: totals", totals.len() as u64, counted)?,
+    ];
+    let mut seen = Tally::default();
+    rows.iter().for_each(|(_, tally)| seen.add(tally));
+    Ok((rows.map(|(part, _)| part).into(), seen))
+}
+
+fn single_functions(single: &Single, seed: u64) -> Result<Vec<Part>, Found> {
+    let edges = edge_files();
+    let files = edges.len() as u64 + SINGLE_FILES;
+    // Behind the edges come random files, by numbers that the program's don't have.
+    let file = |case: u64| match edges.get(case as usize) {
+        Some(edge) => edge.clone(),
+        None => random_file(seed, case),
+    };
+    let entry = |case, _: &mut Tally| {
+        let random = &mut Random::of_case(seed, case);
+        single.hold_entry(&Arrays::of_case(case, random))
+    };
+    let cut = |case, _: &mut Tally| single.hold_parts(&file(case));
+    let told = |case, _: &mut Tally| single.hold_lines(&file(case));
+    let rows = [
+        part("operations: entries of two arrays", ARRAYS, entry)?,
+        part("operations: parts of files", files, cut)?,
+        part("operations: lines of files", files, told)?,
+    ];
+    Ok(rows.map(|(part, _)| part).into())
+}
+
+/// The rehearsal's file in `examples/`, which must be the one that is told.
+fn stored_rehearsal(told: &Rehearsal) -> Result<Vec<u8>, Disagreement> {
+    let path = Path::new("examples").join(told.file_name());
+    let file = read(&path)?;
+    if file == told.script.draft.bytes() {
+        return Ok(file);
     }
-    if let Some(script) = &example.script {
-        script
-            .follow(tally)
-            .map_err(|found| found.of(example.name))?;
-    }
-    campaign::file(&example.file, 0, tally)?;
-    program.compare(&example.file, Feed::AtOnce)
+    let what = format!("{} is not the file that is told", path.display());
+    Err(Disagreement::without_file(what))
 }
 
-fn named_file(program: &Program, path: &Path, tally: &mut Tally) -> Verdict {
-    let file = stored(path)?;
-    campaign::file(&file, 0, tally)?;
-    program.compare(&file, Feed::AtOnce)
-}
-
-fn stored(path: &Path) -> Result<Vec<u8>, Disagreement> {
-    let told = |error| Disagreement::without_file(format!("{}: {error}", path.display()));
-    fs::read(path).map_err(told)
+fn read(path: &Path) -> Result<Vec<u8>, Disagreement> {
+    fs::read(path)
+        .map_err(|error| Disagreement::without_file(format!("{}: {error}", path.display())))
 }
 
 /// Takes every item of a list through the same work.
@@ -152,40 +184,24 @@ fn each<T: Sync>(
     items: &[T],
     work: impl Fn(&T, &mut Tally) -> Verdict + Sync,
 ) -> Result<Part, Found> {
-    let started = Instant::now();
-    let cases = items.len() as u64;
     let one = |case: u64, tally: &mut Tally| work(&items[case as usize], tally);
-    spread(cases, one).map_err(|failure| in_part(name, failure))?;
-    Ok(done(name, cases, started))
+    part(name, items.len() as u64, one).map(|(part, _)| part)
 }
 
-/// A part that counts its own cases.
-fn alone(
+fn part(
     name: &'static str,
-    work: impl FnOnce() -> Result<u64, Disagreement>,
-) -> Result<Part, Found> {
-    let found = |disagreement| Found {
-        part: name,
-        case: None,
-        disagreement,
-    };
+    cases: u64,
+    work: impl Fn(u64, &mut Tally) -> Verdict + Sync,
+) -> Result<(Part, Tally), Found> {
     let started = Instant::now();
-    let cases = work().map_err(found)?;
-    Ok(done(name, cases, started))
-}
-
-fn done(name: &'static str, cases: u64, started: Instant) -> Part {
-    Part {
+    let tally = spread(cases, work).map_err(|failure| Found {
+        part: name,
+        failure,
+    })?;
+    let part = Part {
         name,
         cases,
         seconds: started.elapsed().as_secs_f64(),
-    }
-}
-
-fn in_part(part: &'static str, failure: Failure) -> Found {
-    Found {
-        part,
-        case: Some(failure.case),
-        disagreement: failure.disagreement,
-    }
+    };
+    Ok((part, tally))
 }
