@@ -1,3 +1,4 @@
 pub mod Laws
 pub mod Rehearsals
+pub mod Handed
 pub mod Linearizable

@@ -3,15 +3,11 @@ use mathlib.Core.Path.{_≡_, refl}
 use mathlib.Core.Bool.{true}
 use Rattle.terms.specs.Lists.{all}
 use Rattle.machine.specs.InRange.{inRange}
-use Rattle.machine.specs.Rehearsals.{HandedBack, everyNumberShown, holds, rehearsals}
+use Rattle.machine.specs.Rehearsals.{everyNumberShown, holds, rehearsals}
 
 pub rehearsals-hold : all holds rehearsals ≡ true
 unfolding inRange
 rehearsals-hold = refl
-
-pub handed-back : HandedBack
-unfolding inRange
-handed-back = (refl, refl)
 
 -- the table shows every number that an outcome can have
 pub every-number-shown : everyNumberShown ≡ true

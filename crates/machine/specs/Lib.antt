@@ -15,6 +15,7 @@
 -- where a call takes effect              Effect
 -- demand 3                               Linearizable
 -- M1 to M9, and more                     Rehearsals
+-- machines handed in                     Handed
 pub mod Types
 pub mod Worker
 pub mod Thief
@@ -27,3 +28,4 @@ pub mod Obey
 pub mod Effect
 pub mod Linearizable
 pub mod Rehearsals
+pub mod Handed

@@ -2,14 +2,13 @@
 use mathlib.Core.Path.{_≡_, refl, ap, sym, _∙_}
 use mathlib.Core.Bool.{Bool, true, false, cond}
 use mathlib.Core.List.{List, [], _∷_, _++_, append-assoc, map, map-append}
-use Prim.Native.Nat.{ℕ, zero, suc, _+_, _≤_, _<_}
+use Prim.Native.Nat.{ℕ, zero, suc, _+_}
 use native.Mathlib.Nat.{add-suc, add-zero, suc-add, zero-add}
 use native.Mathlib.Numerals.{add-one}
 use native.Mathlib.Omega.{arith}
 use lib.Dec.{eqb, ltb}
-use lib.ListN.{length, take, drop, length-append, replicate, take-append-drop}
+use lib.ListN.{length, take, drop, length-append, take-append-drop}
 use borrow.Author.Tests.{eqb-false, eqb-true, le-ltb, lt-ltb, ltb-false, ltb-true}
-use Rattle.terms.proofs.Laws.Tests.{eqb-comm}
 use Rattle.terms.specs.Lists.{concatMap, occurrences, rangeFrom, range}
 
 -- ── Sums ────────────────────────────────────────────────────────────────────────────────────────────────────────────────────
@@ -127,19 +126,3 @@ sumOf-range f k (suc n) =
     let only : ℕ → ℕ = λ j. cond (eqb j k) (f j) 0 in
     ap (sumOf only) (rangeFrom-suc 0 n) ∙ sumOf-append only (range n) ((0 + n) ∷ [])
     ∙ rw (sumOf-range f k n, zero-add) (omega (arith, cond-ltb-suc f k n))
-
--- each number below n stands once
-pub occurrences-range : (k n : ℕ) → k < n → occurrences k (range n) ≡ 1
-occurrences-range k n below = as-sum (range n) ∙ sumOf-range (λ j. 1) k n ∙ rw (lt-ltb k n below)
-  where
-    as-sum : (l : List ℕ) → occurrences k l ≡ sumOf (λ j. cond (eqb j k) 1 0) l
-    as-sum [] = refl
-    as-sum (x ∷ l) = λ i. cond (eqb-comm k x i) 1 0 + as-sum l i
-
--- a function that is the same at each
-pub map-range : {A : Type 0} (f : ℕ → A) (a : A) (n : ℕ) → ((j : ℕ) → j < n → f j ≡ a) → map f (range n) ≡ replicate n a
-map-range f a n same = from 0 n (λ j low high. same j (omega arith))
-  where
-    from : (k n : ℕ) → ((j : ℕ) → k ≤ j → j < k + n → f j ≡ a) → map f (rangeFrom k n) ≡ replicate n a
-    from k zero e = refl
-    from k (suc n) e = λ i. e k (omega arith) (omega arith) i ∷ from (suc k) n (λ j low high. e j (omega arith) (omega arith)) i

@@ -1,0 +1,15 @@
+-- Every row of the table of machines handed in holds, by one computation, and those out of range come back as they were.
+use mathlib.Core.Path.{_≡_, refl}
+use mathlib.Core.Bool.{true}
+use Rattle.terms.specs.Lists.{all}
+use Rattle.machine.specs.InRange.{inRange}
+use Rattle.machine.specs.Rehearsals.{holds}
+use Rattle.machine.specs.Handed.{HandedBack, handedIn}
+
+pub handed-hold : all holds handedIn ≡ true
+unfolding inRange
+handed-hold = refl
+
+pub handed-back : HandedBack
+unfolding inRange
+handed-back = (refl, refl)
