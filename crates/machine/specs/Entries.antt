@@ -1,10 +1,10 @@
--- The entries that are no step of a call: a drain, a client store, and the beginnings. Renders, of "The machine", the drain; and 5, 6 and 7 of "The numbers" for them.
+-- The entries that are no step of a call: a drain, a client store, and the beginnings. Renders, of "The machine", the drain and when the spacing count begins anew; and 5, 6 and 7 of "The numbers" for them.
 use mathlib.Core.Bool.{cond, not}
 use Prim.Native.Nat.{ℕ}
-use Rattle.stores.specs.Spacing.{counted, takeBegins, tooEarly}
-use Rattle.stores.specs.StoreBuffer.{clientStore, dropOldest, oldest, slotsAfter, tailAfter}
-use Rattle.machine.specs.Types.{Done, Machine, Moved, Place, Early, ThiefCall, StealLock, WorkerCall, PutLoadHead, TakeStoreTail}
-use Rattle.machine.specs.Update.{pushed, withMemory, withSpacing, withThief, withWorker}
+use Rattle.stores.specs.Spacing.{takeBegins, tooEarly}
+use Rattle.stores.specs.StoreBuffer.{dropOldest, oldest, slotsAfter, tailAfter}
+use Rattle.machine.specs.Types.{Client, Done, Machine, TheClient, One, Moved, Place, Early, ThiefCall, StealLock, WorkerCall, PutLoadHead, TakeStoreTail}
+use Rattle.machine.specs.Update.{withMemory, withSpacing, withStore, withThief, withWorker}
 use Rattle.machine.specs.Worker.{workerRuns}
 use Rattle.machine.specs.Thief.{thiefRuns}
 use Rattle.machine.specs.Machine.{done, hasRoom, needing, nothingPending, thiefCall}
@@ -34,9 +34,9 @@ unlessWorkerRuns m d = cond (workerRuns (m .worker .call)) (done Place m) d
 abbrev pub workerGoesOn : WorkerCall → Machine → Done
 workerGoesOn c m = done Moved (withWorker c m)
 
--- a client store, which is counted
+-- a client store, which counts
 abbrev pub makeClientStore : Machine → Done
-makeClientStore m = unlessWorkerRuns m (needing (hasRoom m) m (done Moved (withSpacing (counted (m .spacing)) (pushed clientStore m))))
+makeClientStore m = unlessWorkerRuns m (needing (hasRoom m) m (done Moved (withStore (One TheClient Client) m)))
 
 abbrev pub beginPut : ℕ → Machine → Done
 beginPut x m = unlessWorkerRuns m (workerGoesOn (PutLoadHead x) m)

@@ -1,18 +1,18 @@
 -- Machines handed in, as one table over the definitions, with the rows of `Rehearsals`: machines in range that no schedule reaches, steps that lead out of range, and machines out of range. Renders, of "Parts", what an
 -- operation does that is handed a machine; and of "The numbers", that 7 leaves the machine unchanged. `proofs/Handed.antt` proves that every row holds, and `HandedBack`.
 use mathlib.Core.Path.{_≡_}
-use mathlib.Core.Bool.{true}
+use mathlib.Core.Bool.{true, false}
 use mathlib.Core.List.{List, [], _∷_, _++_, map}
 use lib.IntN.{ℤ, pos, negsuc}
 use lib.ListN.{replicate}
 use Rattle.terms.specs.Lists.{concatMap}
 use Rattle.terms.specs.Sizes.{sized}
 use Rattle.stores.specs.StoreBuffer.{clientStore, emptyBuffer, slotStore, tailStore}
-use Rattle.machine.specs.Types.{Entry, ClientStore, BeginTake, WorkerStep, BeginSteal, ThiefStep, Index, Machine, Moved, Wait, Stored, Task, PutLoadHead, PutStoreSlot, PutStoreTail, StealRaiseHead, StealLoadTail, StealLoadSlot, StealRestoreHead, TakeStoreTail, TakeLoadHead, TakeLoadSlot, TakeLock, TakeReloadHead, TakeRestoreTail, TakeUnlockTask, TakeLoadLastSlot}
+use Rattle.machine.specs.Types.{Entry, ClientStore, BeginTake, WorkerStep, BeginSteal, ThiefStep, Early, Empty, Index, Machine, Sizes, Spacing, Moved, Wait, Stored, Task, PutLoadHead, PutStoreSlot, PutStoreTail, StealRaiseHead, StealLoadTail, StealLoadSlot, StealRestoreHead, TakeStoreTail, TakeLoadHead, TakeLoadSlot, TakeLock, TakeReloadHead, TakeRestoreTail, TakeUnlockTask, TakeLoadLastSlot}
 use Rattle.machine.specs.Machine.{done, fresh}
 use Rattle.machine.specs.Update.{pushed, withBuffer, withHead, withMemory, withSpacing, withThief, withWorker}
 use Rattle.machine.specs.Obey.{obey}
-use Rattle.machine.specs.Rehearsals.{Row, margin, story, handed, brink, beyond, does, drains, headIs, m3Sizes, oneOfEach, thiefMoves, workerGets, workerMoves}
+use Rattle.machine.specs.Rehearsals.{Line, Row, margin, story, handed, brink, beyond, countIs, does, drains, headIs, m3Sizes, oneOfEach, thiefMoves, workerGets, workerMoves}
 
 -- with one thief
 abbrev pub absentThieves : List Entry
@@ -35,8 +35,27 @@ minusTwo = record { at = negsuc 1 }
 abbrev pub greatest : Index
 greatest = record { at = pos 2147483648 }
 
+-- the largest spacing count in range; a count with no take begun, and one with a take begun
+abbrev pub countedMost : Spacing
+countedMost = record { count = 4096; begun = true }
+
+abbrev pub countBeforeTake : Spacing
+countBeforeTake = record { count = 5; begun = false }
+
+abbrev pub countSinceTake : Spacing
+countSinceTake = record { count = 5; begun = true }
+
+-- sizes that ask for six stores between takes
+abbrev pub spacedSizes : Sizes
+spacedSizes = sized 4 2 6 1 1 0
+
+-- the steps of a take that finds no task, from its first
+abbrev pub emptySteps : List Line
+emptySteps = workerMoves 2 ++ drains 1 ++ workerMoves 3 ++ drains 1 ++ workerGets Empty
+
 -- Steps on machines in range that no schedule reaches. An unlock waits for pending stores, a restoring store for a place in the list and for nothing else; steal 3 goes by its own h; END is the tail's greatest
--- value and no other; the last load of a take sees pending stores; cells past the pending stores are not looked at.
+-- value and no other; the last load of a take sees pending stores; cells past the pending stores are not looked at. A count that a machine brings along, though it says that no take has begun, is no
+-- ground for EARLY, and 0 from the next store on that counts; no step of a take changes the count, nor whether a take has begun.
 abbrev pub handedRows : List Row
 handedRows =
     handed (pushed clientStore (withWorker (TakeUnlockTask zeroth) (fresh m3Sizes))) (workerGets Wait ++ drains 1 ++ workerMoves 1 ++ workerGets (Task 0))
@@ -45,13 +64,24 @@ handedRows =
     ∷ handed (withHead greatest (withTail (pos 2147483648) (withWorker (PutLoadHead 1) (fresh m3Sizes)))) (workerMoves 1)
     ∷ handed (pushed (slotStore zeroth 9) (withWorker (TakeLoadLastSlot zeroth) (fresh m3Sizes))) (workerGets (Task 9))
     ∷ handed (withBuffer (record { stores = replicate 64 (slotStore minusOne 1); count = 0 }) (fresh m3Sizes)) (does BeginTake Moved ∷ [])
+    ∷ handed (withSpacing countBeforeTake (withWorker (PutLoadHead 1) (fresh m3Sizes))) (workerMoves 1 ++ countIs 5 ∷ workerMoves 1 ++ countIs 0 ∷ [])
+    ∷ handed (withSpacing countBeforeTake (withWorker PutStoreTail (fresh m3Sizes))) (workerGets Stored ++ countIs 0 ∷ [])
+    ∷ handed (withSpacing countBeforeTake (fresh spacedSizes)) (does BeginTake Moved ∷ countIs 0 ∷ [])
+    ∷ handed (withSpacing countBeforeTake (withWorker TakeStoreTail (fresh spacedSizes))) (emptySteps ++ countIs 5 ∷ does BeginTake Moved ∷ [])
+    ∷ handed (withSpacing countBeforeTake (withWorker (TakeLoadHead zeroth) (fresh spacedSizes))) (workerMoves 1 ++ workerGets (Task 0) ++ countIs 5 ∷ does BeginTake Moved ∷ [])
+    ∷ handed (withSpacing countBeforeTake (withWorker (TakeReloadHead zeroth) (fresh spacedSizes))) (workerMoves 2 ++ workerGets (Task 0) ++ countIs 5 ∷ does BeginTake Moved ∷ [])
+    ∷ handed (withSpacing countSinceTake (withWorker TakeStoreTail (fresh spacedSizes))) (emptySteps ++ countIs 5 ∷ does BeginTake Early ∷ [])
+    ∷ handed (withSpacing countSinceTake (withWorker (TakeLoadHead zeroth) (fresh spacedSizes))) (workerMoves 1 ++ workerGets (Task 0) ++ countIs 5 ∷ does BeginTake Early ∷ [])
+    ∷ handed (withSpacing countSinceTake (withWorker (TakeReloadHead zeroth) (fresh spacedSizes))) (workerMoves 2 ++ workerGets (Task 0) ++ countIs 5 ∷ does BeginTake Early ∷ [])
     ∷ []
 
--- The client store that is counted past 4,096; and each step that leads an index out of range: put 2 and 3, take 1, take 2 and 4 at t = head = −1, take 5, steal 3,
+-- A store that is counted past 4,096, the client's and each of a put's; and each step that leads an index out of range: put 2 and 3, take 1, take 2 and 4 at t = head = −1, take 5, steal 3,
 -- and steal 4 at h = −1. No run of at most 4,096 entries gets there (`run-in-range`).
 abbrev pub brinks : List Row
 brinks =
-    brink (withSpacing (record { count = 4096; begun = true }) (fresh m3Sizes)) ClientStore Moved
+    brink (withSpacing countedMost (fresh m3Sizes)) ClientStore Moved
+    ∷ brink (withSpacing countedMost (withWorker (PutStoreSlot 5) (fresh m3Sizes))) WorkerStep Moved
+    ∷ brink (withSpacing countedMost (withWorker PutStoreTail (fresh m3Sizes))) WorkerStep Stored
     ∷ brink (withTail (pos 2147483648) (withWorker PutStoreTail (fresh m3Sizes))) WorkerStep Stored
     ∷ brink (withTail (negsuc 0) (withWorker (PutStoreSlot 5) (fresh m3Sizes))) WorkerStep Moved
     ∷ brink (withTail (negsuc 0) (withWorker TakeStoreTail (fresh m3Sizes))) WorkerStep Moved
@@ -73,6 +103,7 @@ outOfRange =
     ∷ fresh (sized 4 2 0 2 1 2147483648)
     ∷ withBuffer (record { stores = replicate 64 clientStore; count = 3 }) (fresh m3Sizes)
     ∷ withSpacing (record { count = 4097; begun = true }) (fresh m3Sizes)
+    ∷ withSpacing (record { count = 4097; begun = false }) (fresh m3Sizes)
     ∷ withHead minusTwo (fresh m3Sizes)
     ∷ withTail (pos 2147483649) (fresh m3Sizes)
     ∷ pushed (tailStore minusTwo) (fresh m3Sizes)

@@ -4,6 +4,7 @@
 --
 -- sizes and margins, outcomes            Sizes, Outcome, of `terms`
 -- slots, pending stores                  Index, StoreBuffer, of `stores`
+-- whose stores keep takes apart          Spacing, of `stores`
 -- the steps of put and take, of steal    Worker, Thief: the queue, which knows no machine
 -- a machine with a part replaced         Update
 -- the machine at first, and loads        Machine

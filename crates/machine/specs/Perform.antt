@@ -1,8 +1,9 @@
 -- A step on the machine: what a party sees of it, and what the step does to it. The steps themselves are in `Worker` and `Thief`; what the
--- parties load is in `Machine`.
+-- parties load is in `Machine`. Renders, of the spacing rule, that a store counts as soon as it is pending.
 use Prim.Native.Nat.{ℕ}
 use lib.ListN.{set}
 use Rattle.terms.specs.Sizes.{marginInUse}
+use Rattle.stores.specs.Spacing.{countedIn}
 use Rattle.stores.specs.StoreBuffer.{pushedIn}
 use Rattle.machine.specs.Types.{Done, Machine, ThiefCall, ThiefMove, ThiefView, WorkerCall, WorkerMove, WorkerView}
 use Rattle.machine.specs.Worker.{loads, workerMove}
@@ -25,7 +26,7 @@ workerView m c =
       loaded = workerLoads m (loads c);
     }
 
--- what its move does: the store is pending, and lock and call are as the move says
+-- what its move does: the store is pending and, by the spacing rule, counted; lock and call are as the move says
 abbrev pub performWorker : Machine → WorkerMove → Done
 performWorker m d =
     record {
@@ -37,7 +38,7 @@ performWorker m d =
             tail = m .tail;
             lock = d .lock;
             buffer = pushedIn (d .push) (m .buffer);
-            spacing = m .spacing;
+            spacing = countedIn (d .push) (m .spacing);
             worker = record { call = d .call };
             thieves = m .thieves;
           };

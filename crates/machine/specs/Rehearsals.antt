@@ -1,5 +1,5 @@
 -- The rehearsals of the paper, M1 to M9, as one table over the definitions, with rows for the example under "The program's lines", for
--- the lines of "Broken thread" that a run can show, for each limit of the plain queue, and for each refusal in its order. Rows of machines that no
+-- the lines of "Broken thread" that a run can show, for each limit of the plain queue, for each refusal in its order, and for the stores that count towards the spacing (request 1). Rows of machines that no
 -- run of a schedule reaches are in `Handed`.
 -- `proofs/Rehearsals.antt` proves one fact: every row holds.
 use mathlib.Core.Bool.{Bool, true, not, _&&_}
@@ -196,7 +196,7 @@ m7 = putEnds 1 End
 abbrev pub m7Before : List Line
 m7Before = puts 1 ++ putEnds 2 End
 
--- M8: the next take must wait for a client store. One made before the first take does not count.
+-- M8: the next take must wait for a store, here a client's. One made before the first take does not count.
 abbrev pub m8 : List Line
 m8 =
     clientStores 1 ++ countIs 0 ∷ puts 1 ++ drains 3 ++ takes 1 ++ does BeginTake Early ∷ clientStores 1
@@ -277,7 +277,7 @@ stolenFromSlot0 = aroundTheSlots ++ steals (Task 3) ++ puts 6 ++ drains 2 ++ ste
 abbrev pub beyondBuffer : List Line
 beyondBuffer = filled 3 ++ steals (Task 1) ++ steals Abort
 
--- the second take is one client store early, of two that are asked for
+-- the second take is one store early, of two that are asked for
 abbrev pub twoStoresApart : List Line
 twoStoresApart = puts 1 ++ puts 2 ++ takes 2 ++ clientStores 1 ++ does BeginTake Early ∷ clientStores 1 ++ takes 1
 
@@ -368,27 +368,81 @@ endBeforeFull = puts 1 ++ tasksStand 1 ∷ putEnds 2 End
 abbrev pub takesNothing : List Line
 takesNothing = does BeginTake Moved ∷ workerMoves 2 ++ drains 1 ++ workerMoves 3 ++ drains 1 ++ workerGets Empty
 
--- the spacing rule counts client stores alone: no put, STORED or FULL, and an EMPTY take is a take
-abbrev pub putsCountNothing : List Line
-putsCountNothing = puts 1 ++ takes 1 ++ puts 2 ++ countIs 0 ∷ does BeginTake Early ∷ []
+-- a put between two takes keeps them apart by its two stores: by as much as a spacing of 1 or 2 asks for, and not one of 3
+abbrev pub putBetweenTakes : Outcome → List Line
+putBetweenTakes o = puts 1 ++ takes 1 ++ does BeginTake Early ∷ puts 2 ++ countIs 2 ∷ does BeginTake o ∷ []
 
+-- .. together with client stores
+abbrev pub putAndClientStore : List Line
+putAndClientStore = putBetweenTakes Early ++ clientStores 1 ++ countIs 3 ∷ takes 2
+
+-- .. each as soon as it is pending, and not while it waits for a place
+abbrev pub countsOncePending : List Line
+countsOncePending =
+    filled 1 ++ takes 1 ++ clientStores 1 ++ does (BeginPut 2) Moved ∷ workerMoves 1 ++ countIs 1 ∷ workerGets Wait
+    ++ countIs 1 ∷ drains 1 ++ workerMoves 1 ++ countIs 2 ∷ workerGets Wait ++ countIs 2 ∷ drains 1 ++ workerGets Stored ++ countIs 3 ∷ []
+
+-- .. two puts by four, also once they have drained, and so between every two takes
+abbrev pub twoPutsBetweenTakes : List Line
+twoPutsBetweenTakes =
+    puts 1 ++ takes 1 ++ puts 2 ++ drains 5 ++ countIs 2 ∷ puts 3 ++ drains 2 ++ countIs 4 ∷ takes 3
+    ++ puts 4 ++ countIs 2 ∷ does BeginTake Early ∷ []
+
+-- .. also by stores of what memory has already: task 0, where task 0 was
+abbrev pub sameValueCounts : List Line
+sameValueCounts = puts 0 ++ drains 2 ++ takes 0 ++ puts 0 ++ countIs 2 ∷ does BeginTake Moved ∷ []
+
+-- .. whatever a thief does meanwhile, which waives nothing either
+abbrev pub countsBesideThief : List Line
+countsBesideThief =
+    filled 1 ++ takes 1 ++ does (BeginSteal 0) Moved ∷ thiefMoves 1 ++ does BeginTake Early ∷ puts 2 ++ countIs 2 ∷ clientStores 1 ++ countIs 3 ∷ []
+
+-- .. and no task is lost or given twice, with the margin that is needed for the spacing
+abbrev pub putBetweenTakesThenSteal : List Line
+putBetweenTakesThenSteal = filled 3 ++ takes 3 ++ puts 4 ++ takes 4 ++ steals (Task 1) ++ standing (2 ∷ []) ∷ []
+
+-- before the first take no store counts and nothing makes it wait: no put, no steal
+abbrev pub putsBeforeFirstTake : List Line
+putsBeforeFirstTake =
+    does (BeginPut 1) Moved ∷ workerMoves 2 ++ countIs 0 ∷ workerGets Stored ++ countIs 0 ∷ takes 1 ++ countIs 0 ∷ does BeginTake Early ∷ []
+
+abbrev pub stealBeforeFirstTake : List Line
+stealBeforeFirstTake = filled 2 ++ steals (Task 1) ++ takes 2
+
+-- a put that stores nothing counts nothing. FULL comes right after a take here: a thief raised head while 2 was put, and has put it back, so that before the take as many tasks stood as there are
+-- slots.
 abbrev pub fullCountsNothing : List Line
-fullCountsNothing = puts 1 ++ takes 1 ++ puts 2 ++ putEnds 3 Full ++ countIs 0 ∷ does BeginTake Early ∷ []
-
-abbrev pub emptyWaivesNothing : List Line
-emptyWaivesNothing = takesNothing ++ countIs 0 ∷ does BeginTake Early ∷ clientStores 1 ++ does BeginTake Moved ∷ []
+fullCountsNothing =
+    filled 1 ++ does (BeginSteal 0) Moved ∷ thiefMoves 3 ++ puts 2 ++ thiefMoves 2 ++ thiefGets Abort
+    ++ tasksStand 2 ∷ takes 2 ++ putEnds 3 Full ++ countIs 0 ∷ does BeginTake Early ∷ []
 
 abbrev pub endCountsNothing : List Line
-endCountsNothing = puts 1 ++ takes 1 ++ puts 2 ++ putEnds 3 End ++ countIs 0 ∷ does BeginTake Early ∷ []
+endCountsNothing = takesNothing ++ putEnds 3 End ++ countIs 0 ∷ does BeginTake Early ∷ []
 
--- .. and nothing but the next take begins the count anew: no put, no drain, no steal
+-- .. and leaves the count, and the first take, as they are
+abbrev pub fullLeavesTheCount : List Line
+fullLeavesTheCount = puts 1 ++ putEnds 2 Full ++ takes 1 ++ clientStores 1 ++ puts 2 ++ putEnds 3 Full ++ countIs 3 ∷ does BeginTake Moved ∷ []
+
+abbrev pub endLeavesTheCount : List Line
+endLeavesTheCount = puts 1 ++ putEnds 2 End ++ takes 1 ++ puts 2 ++ putEnds 3 End ++ countIs 2 ∷ does BeginTake Moved ∷ []
+
+-- an EMPTY take is a take, from which stores are counted anew; and the tail that it puts back is no put's
+abbrev pub emptyWaivesNothing : List Line
+emptyWaivesNothing = takesNothing ++ countIs 0 ∷ does BeginTake Early ∷ clientStores 1 ++ drains 1 ++ takesNothing ++ countIs 0 ∷ does BeginTake Early ∷ []
+
+-- the count stays through steals and drains and begins anew as a take begins, whose own store does not count
 abbrev pub countStays : List Line
 countStays =
     filled 3 ++ takes 3 ++ clientStores 1 ++ countIs 1 ∷ steals (Task 1) ++ steals Abort ++ countIs 1 ∷ drains 2
-    ++ countIs 1 ∷ puts 4 ++ countIs 1 ∷ does BeginTake Moved ∷ countIs 0 ∷ []
+    ++ countIs 1 ∷ puts 4 ++ countIs 3 ∷ does BeginTake Moved ∷ countIs 0 ∷ workerMoves 1 ++ countIs 0 ∷ []
 
-abbrev pub fullLeavesTheCount : List Line
-fullLeavesTheCount = puts 1 ++ takes 1 ++ clientStores 1 ++ puts 2 ++ putEnds 3 Full ++ countIs 1 ∷ does BeginTake Moved ∷ []
+-- .. also where no spacing is asked for
+abbrev pub countsWithoutSpacing : List Line
+countsWithoutSpacing = takesNothing ++ clientStores 1 ++ countIs 1 ∷ does BeginTake Moved ∷ countIs 0 ∷ []
+
+-- a spacing above the buffer size is asked for in full
+abbrev pub spacingAboveBuffer : List Line
+spacingAboveBuffer = takesNothing ++ clientStores 1 ++ drains 1 ++ does BeginTake Early ∷ clientStores 1 ++ does BeginTake Moved ∷ []
 
 -- two tasks stand, before and after their stores have drained
 abbrev pub twoStand : List Line
@@ -448,12 +502,24 @@ stories =
     ∷ story (sized 4 8 0 7 1 3) fromAnotherStart
     ∷ story (sized 4 8 0 8 1 0) newestOfASlot
     ∷ story (sized 2 2 0 2 1 2147483646) endBeforeFull
-    ∷ story (sized 4 8 1 4 1 0) putsCountNothing
-    ∷ story (sized 2 8 1 4 1 0) fullCountsNothing
-    ∷ story (sized 4 2 1 1 1 0) emptyWaivesNothing
-    ∷ story (sized 4 8 1 4 1 2147483646) endCountsNothing
-    ∷ story (sized 4 4 1 2 1 0) countStays
+    ∷ story (sized 4 8 1 4 1 0) (putBetweenTakes Moved)
+    ∷ story (sized 4 8 2 3 1 0) (putBetweenTakes Moved)
+    ∷ story (sized 4 8 3 2 1 0) putAndClientStore
+    ∷ story (sized 4 2 1 1 1 0) countsOncePending
+    ∷ story (sized 4 8 4 2 1 0) twoPutsBetweenTakes
+    ∷ story (sized 4 8 2 3 1 0) sameValueCounts
+    ∷ story (sized 4 8 1 4 1 0) countsBesideThief
+    ∷ story (sized 8 4 2 2 1 0) putBetweenTakesThenSteal
+    ∷ story (sized 4 8 1 4 1 0) putsBeforeFirstTake
+    ∷ story (sized 4 2 1 1 1 0) stealBeforeFirstTake
+    ∷ story (sized 2 4 1 2 1 0) fullCountsNothing
+    ∷ story (sized 4 2 1 1 1 2147483647) endCountsNothing
     ∷ story (sized 2 8 1 4 1 0) fullLeavesTheCount
+    ∷ story (sized 4 8 1 4 1 2147483646) endLeavesTheCount
+    ∷ story (sized 4 2 1 1 1 0) emptyWaivesNothing
+    ∷ story (sized 4 4 1 2 1 0) countStays
+    ∷ story (sized 4 2 0 2 1 0) countsWithoutSpacing
+    ∷ story (sized 4 1 2 1 1 0) spacingAboveBuffer
     ∷ story (sized 4 2 1 1 1 0) m9Place
     ∷ story (sized 4 2 0 2 1 0) placeWithinWorkersCalls
     ∷ story (sized 4 4 0 4 1 0) twoStand

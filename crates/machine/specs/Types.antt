@@ -19,6 +19,8 @@ pub use Rattle.stores.specs.declared.store_buffer.StoreKind.{StoreKind}
 pub use Rattle.stores.specs.declared.store_buffer.StoreKind.the-variants.{Client, Tail, Slot}
 pub use Rattle.stores.specs.declared.store_buffer.Push.{Push}
 pub use Rattle.stores.specs.declared.store_buffer.Push.the-variants.{Nothing, One}
+pub use Rattle.stores.specs.declared.store_buffer.Maker.{Maker}
+pub use Rattle.stores.specs.declared.store_buffer.Maker.the-variants.{TheClient, APut, ATake}
 pub use Rattle.machine.specs.declared.machine.Done.{Done}
 pub use Rattle.machine.specs.declared.machine.Machine.{Machine}
 pub use Rattle.machine.specs.declared.thief.Thief.{Thief}

@@ -2,8 +2,9 @@
 use mathlib.Core.List.{List}
 use Prim.Native.Nat.{ℕ}
 use lib.ListN.{set}
-use Rattle.stores.specs.StoreBuffer.{push}
-use Rattle.machine.specs.Types.{Holder, Index, Machine, Spacing, Store, StoreBuffer, ThiefCall, WorkerCall}
+use Rattle.stores.specs.Spacing.{countedIn}
+use Rattle.stores.specs.StoreBuffer.{push, pushedIn}
+use Rattle.machine.specs.Types.{Holder, Index, Machine, Push, Spacing, Store, StoreBuffer, ThiefCall, WorkerCall}
 
 abbrev pub withHead : Index → Machine → Machine
 withHead h m = record { sizes = m .sizes; slots = m .slots; head = h; tail = m .tail; lock = m .lock; buffer = m .buffer; spacing = m .spacing; worker = m .worker; thieves = m .thieves }
@@ -27,6 +28,10 @@ withWorker c m = record { sizes = m .sizes; slots = m .slots; head = m .head; ta
 
 abbrev pub withThief : ℕ → ThiefCall → Machine → Machine
 withThief i c m = record { sizes = m .sizes; slots = m .slots; head = m .head; tail = m .tail; lock = m .lock; buffer = m .buffer; spacing = m .spacing; worker = m .worker; thieves = set (m .thieves) i (record { call = c }) }
+
+-- the store that an entry makes is pending and, by the spacing rule, counted
+abbrev pub withStore : Push → Machine → Machine
+withStore p m = withSpacing (countedIn p (m .spacing)) (withBuffer (pushedIn p (m .buffer)) m)
 
 -- a store is pending
 abbrev pub pushed : Store → Machine → Machine

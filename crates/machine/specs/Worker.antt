@@ -1,5 +1,6 @@
 -- Each step of a put and of a take: what it does, from what the worker sees. Renders, of "The machine", "Put", "Take", and the
--- paragraph on what locking, unlocking and a new pending store need; and 5 and 7 of "The numbers" for them.
+-- paragraph on what locking, unlocking and a new pending store need; and 5 and 7 of "The numbers" for them. Each store names the call that makes it, since request 1 has the spacing rule go by
+-- that (`counts`, of `stores`).
 use mathlib.Core.Path.{_≡_}
 use mathlib.Core.Bool.{Bool, true, false, cond, _&&_}
 use Prim.Native.Nat.{ℕ, _-_, _≤_}
@@ -7,7 +8,7 @@ use lib.IntN.{pos, _+ℤ_, _-ℤ_}
 use lib.Signed.{leZ}
 use Rattle.stores.specs.Index.{eqZ, indexInRange, next, previous, slotIndexInRange}
 use Rattle.stores.specs.Lock.{isNobody}
-use Rattle.machine.specs.Types.{Index, Load, NoSlot, SlotOf, Nobody, TheWorker, Outcome, Moved, Place, Wait, Stored, Task, Empty, Full, End, Nothing, One, Holder, StoreKind, Tail, Slot, WorkerCall, PutLoadHead, PutStoreSlot, PutStoreTail, TakeStoreTail, TakeLoadHead, TakeLoadSlot, TakeLock, TakeReloadHead, TakeRestoreTail, TakeUnlockEmpty, TakeUnlockTask, TakeLoadLastSlot, WorkerView, WorkerMove}
+use Rattle.machine.specs.Types.{Index, Load, NoSlot, SlotOf, Nobody, TheWorker, Outcome, Moved, Place, Wait, Stored, Task, Empty, Full, End, Push, Nothing, One, APut, ATake, Holder, Tail, Slot, WorkerCall, PutLoadHead, PutStoreSlot, PutStoreTail, TakeStoreTail, TakeLoadHead, TakeLoadSlot, TakeLock, TakeReloadHead, TakeRestoreTail, TakeUnlockEmpty, TakeUnlockTask, TakeLoadLastSlot, WorkerView, WorkerMove}
 
 -- ── Calls ───────────────────────────────────────────────────────────────────────────────────────────────────────────────────
 
@@ -85,8 +86,8 @@ abbrev pub needing : Bool → WorkerView → WorkerMove → WorkerMove
 needing met v d = cond met d (stays Wait v)
 
 -- a store, which needs room
-abbrev pub storing : StoreKind → Outcome → WorkerCall → WorkerView → WorkerMove
-storing k o c v = needing (v .room) v (record { push = One k; lock = v .lock; call = c; outcome = o })
+abbrev pub storing : Push → Outcome → WorkerCall → WorkerView → WorkerMove
+storing p o c v = needing (v .room) v (record { push = p; lock = v .lock; call = c; outcome = o })
 
 -- the lock gets this holder, where what that needs is met
 abbrev pub locking : Bool → Holder → Outcome → WorkerCall → WorkerView → WorkerMove
@@ -108,17 +109,17 @@ putLoadHead x v = cond (atEnd v) (answers End v) (cond (isFull v) (answers Full 
 
 -- step 2: store the number in the slot that the tail points to
 abbrev pub putStoreSlot : ℕ → WorkerView → WorkerMove
-putStoreSlot x v = storing (Slot x (v .tail)) Moved PutStoreTail v
+putStoreSlot x v = storing (One APut (Slot x (v .tail))) Moved PutStoreTail v
 
 -- step 3: store the tail, one higher, and answer
 abbrev pub putStoreTail : WorkerView → WorkerMove
-putStoreTail v = storing (Tail (next (v .tail))) Stored WorkerCall.Idle v
+putStoreTail v = storing (One APut (Tail (next (v .tail)))) Stored WorkerCall.Idle v
 
 -- ── Take ────────────────────────────────────────────────────────────────────────────────────────────────────────────────────
 
 -- step 1: store the tail, one lower; t is that index from here on
 abbrev pub takeStoreTail : WorkerView → WorkerMove
-takeStoreTail v = storing (Tail (previous (v .tail))) Moved (TakeLoadHead (previous (v .tail))) v
+takeStoreTail v = storing (One ATake (Tail (previous (v .tail)))) Moved (TakeLoadHead (previous (v .tail))) v
 
 -- t ≥ head
 abbrev pub atOrAboveHead : Index → WorkerView → Bool
@@ -146,7 +147,7 @@ takeReloadHead t v = cond (headIsPast t v) (goesOn (TakeRestoreTail t) v) (goesO
 
 -- step 5 where head is above t: put the tail back
 abbrev pub takeRestoreTail : Index → WorkerView → WorkerMove
-takeRestoreTail t v = storing (Tail (next t)) Moved TakeUnlockEmpty v
+takeRestoreTail t v = storing (One ATake (Tail (next t))) Moved TakeUnlockEmpty v
 
 -- step 6 where head is above t: free the lock and answer
 abbrev pub takeUnlockEmpty : WorkerView → WorkerMove

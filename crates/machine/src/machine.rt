@@ -6,6 +6,8 @@ use stores::Holder;
 use stores::Index;
 use stores::Load;
 use stores::Lock;
+use stores::Maker;
+use stores::Push;
 use stores::Spacing;
 use stores::Store;
 use stores::StoreBuffer;
@@ -44,7 +46,7 @@ pub struct Machine {
     pub lock: Lock,
     // The worker's stores that have not reached memory.
     pub buffer: StoreBuffer,
-    // What the spacing rule goes by: the client stores made since the last take began.
+    // What the spacing rule goes by: the stores that count, made since the last take began.
     pub spacing: Spacing,
     // The worker, with its call in progress.
     pub worker: Worker,
@@ -244,13 +246,11 @@ impl Machine {
         if self.sizes.buffer as usize <= self.buffer.count {
             return self.waits();
         }
-        let store = Store {
-            kind: StoreKind::Client,
-        };
+        let made = Push::One(Maker::TheClient, StoreKind::Client);
         let buffer = self.buffer;
-        self.buffer = buffer.push(store);
+        self.buffer = buffer.pushed(made);
         let spacing = self.spacing;
-        self.spacing = spacing.counted();
+        self.spacing = spacing.counted_in(made);
         Done {
             machine: self,
             outcome: Outcome::Moved,
@@ -270,7 +270,7 @@ impl Machine {
         self.worker_done(Outcome::Moved, WorkerCall::PutLoadHead(task))
     }
 
-    // The worker begins to take a task, if client stores have spaced it from the take before.
+    // The worker begins to take a task, if enough stores have spaced it from the take before.
     pub fn begin_take(mut self) -> Done
         ensures { λ r. ⌜ r ≡ obey self BeginTake ⌝ }
     {

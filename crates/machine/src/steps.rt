@@ -47,11 +47,13 @@ impl Machine {
         if self.in_range() {
             let step = worker_move(self.worker_view());
             let buffer = self.buffer;
+            let spacing = self.spacing;
             let push = step.push;
             let lock = step.lock;
             let call = step.call;
             outcome = step.outcome;
             self.buffer = buffer.pushed(push);
+            self.spacing = spacing.counted_in(push);
             self.lock = lock;
             let worker = Worker { call: call };
             self.worker = worker;

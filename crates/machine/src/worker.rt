@@ -2,6 +2,7 @@ use stores::Holder;
 use stores::Index;
 use stores::Load;
 use stores::Lock;
+use stores::Maker;
 use stores::Push;
 use stores::StoreKind;
 use terms::Outcome;
@@ -186,13 +187,13 @@ impl WorkerView {
     }
 
     // A store is made, for which there must be room.
-    fn stores(self, kind: StoreKind, outcome: Outcome, call: WorkerCall) -> WorkerMove
-        ensures { λ r. ⌜ r ≡ storing kind outcome call self ⌝ }
+    fn stores(self, made: Push, outcome: Outcome, call: WorkerCall) -> WorkerMove
+        ensures { λ r. ⌜ r ≡ storing made outcome call self ⌝ }
     {
         if self.room {
             let lock = self.lock;
             return WorkerMove {
-                push: Push::One(kind),
+                push: made,
                 lock: lock,
                 call: call,
                 outcome: outcome,
@@ -247,7 +248,7 @@ impl WorkerView {
     {
         let tail = self.tail;
         self.stores(
-            StoreKind::Slot(task, tail),
+            Push::One(Maker::APut, StoreKind::Slot(task, tail)),
             Outcome::Moved,
             WorkerCall::PutStoreTail,
         )
@@ -260,7 +261,7 @@ impl WorkerView {
     {
         let tail = self.tail;
         self.stores(
-            StoreKind::Tail(tail.next()),
+            Push::One(Maker::APut, StoreKind::Tail(tail.next())),
             Outcome::Stored,
             WorkerCall::Idle,
         )
@@ -274,7 +275,7 @@ impl WorkerView {
         let tail = self.tail;
         let t = tail.previous();
         self.stores(
-            StoreKind::Tail(t),
+            Push::One(Maker::ATake, StoreKind::Tail(t)),
             Outcome::Moved,
             WorkerCall::TakeLoadHead(t),
         )
@@ -324,7 +325,7 @@ impl WorkerView {
         ensures { λ r. ⌜ r ≡ takeRestoreTail t self ⌝ }
     {
         self.stores(
-            StoreKind::Tail(t.next()),
+            Push::One(Maker::ATake, StoreKind::Tail(t.next())),
             Outcome::Moved,
             WorkerCall::TakeUnlockEmpty,
         )

@@ -9,7 +9,7 @@ use Rattle.terms.proofs.Laws.Tests.{cond-map}
 use Rattle.terms.proofs.Laws.Lists.{all-map, foldl-map, map-drop, map-replicate, map-set, map-take}
 use Rattle.stores.specs.Index.{slotOf}
 use Rattle.stores.specs.Lock.{isNobody}
-use Rattle.stores.specs.Spacing.{tooEarly}
+use Rattle.stores.specs.Spacing.{countedIn, tooEarly}
 use Rattle.stores.specs.StoreBuffer.{clientStore, dropOldest, oldest, pending, pushedIn, slotAfter, slotsAfter, storeInRange, tailAfter}
 use Rattle.machine.specs.Worker.{atEnd, atOrAboveHead, headIsPast, isFull, loads, workerInRange, workerMove, workerRuns}
 use Rattle.machine.specs.Thief.{idleThief, keepsMargin, loads as thiefLoads, thiefInRange, thiefMove, thiefRuns}
@@ -19,7 +19,7 @@ use Rattle.machine.specs.InRange.{inRange}
 use Rattle.machine.specs.Obey.{obey, obeyInRange, outcomesOf, thiefIsThere}
 use Rattle.machine.specs.Perform.{thiefView, workerView, performWorker, stepOfWorker, performThief, stepOfThief}
 use Rattle.machine.specs.Entries.{drain, unlessWorkerRuns, workerGoesOn}
-use Rattle.properties.specs.Types.{Entry, Drain, ClientStore, BeginPut, BeginTake, WorkerStep, BeginSteal, ThiefStep, Done, Index, Load, NoSlot, SlotOf, Machine, Outcome, Moved, Sizes, Store, StoreBuffer, StoreKind, Client, Tail, Slot, Push, Nothing, One, Thief, ThiefCall, StealLock, StealLoadHead, StealRaiseHead, StealLoadTail, StealLoadSlot, StealUnlockTask, StealRestoreHead, StealUnlockAbort, ThiefView, ThiefMove, WorkerCall, PutLoadHead, PutStoreSlot, PutStoreTail, TakeStoreTail, TakeLoadHead, TakeLoadSlot, TakeLock, TakeReloadHead, TakeRestoreTail, TakeUnlockEmpty, TakeUnlockTask, TakeLoadLastSlot, WorkerView, WorkerMove}
+use Rattle.properties.specs.Types.{Entry, Drain, ClientStore, BeginPut, BeginTake, WorkerStep, BeginSteal, ThiefStep, Done, Index, Load, NoSlot, SlotOf, Machine, Outcome, Moved, Sizes, Store, StoreBuffer, StoreKind, Client, Tail, Slot, Push, Nothing, One, TheClient, Spacing, Thief, ThiefCall, StealLock, StealLoadHead, StealRaiseHead, StealLoadTail, StealLoadSlot, StealUnlockTask, StealRestoreHead, StealUnlockAbort, ThiefView, ThiefMove, WorkerCall, PutLoadHead, PutStoreSlot, PutStoreTail, TakeStoreTail, TakeLoadHead, TakeLoadSlot, TakeLock, TakeReloadHead, TakeRestoreTail, TakeUnlockEmpty, TakeUnlockTask, TakeLoadLastSlot, WorkerView, WorkerMove}
 use Rattle.properties.specs.Renumbering.{BlindToNumbers, renumberEntry, renumberOutcome}
 
 -- the thieves replaced
@@ -81,7 +81,7 @@ module _ (f : ℕ → ℕ) where
 
   abbrev renumberPush : Push → Push
   renumberPush Nothing = Nothing
-  renumberPush (One k) = One (renumberKind k)
+  renumberPush (One w k) = One w (renumberKind k)
 
   abbrev renumberWorkerView : WorkerView → WorkerView
   renumberWorkerView v =
@@ -186,7 +186,12 @@ module _ (f : ℕ → ℕ) where
   -- a store becomes pending, if there is one
   push-renumber : (p : Push) (b : StoreBuffer) → pushedIn (renumberPush p) (renumberBuffer b) ≡ renumberBuffer (pushedIn p b)
   push-renumber Nothing b = refl
-  push-renumber (One k) b = rw (map-set renumberStore (b .stores) (b .count) (record { kind = k }))
+  push-renumber (One w k) b = rw (map-set renumberStore (b .stores) (b .count) (record { kind = k }))
+
+  -- .. and counts by who made it
+  count-renumber : (p : Push) (s : Spacing) → countedIn (renumberPush p) s ≡ countedIn p s
+  count-renumber Nothing s = refl
+  count-renumber (One w k) s = refl
 
   -- a drain: what the oldest store leaves in the slots, the oldest store, and the others
   slots-renumber : (n : ℕ) (l : List ℕ) (k : StoreKind) → slotsAfter n (map f l) (renumberKind k) ≡ map f (slotsAfter n l k)
@@ -290,7 +295,7 @@ module _ (f : ℕ → ℕ) where
         let d = workerMove c (workerView m c) in
         let sees : workerView (renumber m) (renumberWorker c) ≡ renumberWorkerView (workerView m c) =
         rw (worker-blind loads (λ x. refl) (λ x. refl) c, worker-loads-renumber m (loads c), tail-renumber m) in
-        let does : performWorker (renumber m) (renumberWorkerMove d) ≡ renumberDone (performWorker m d) = rw (push-renumber (d .push) (m .buffer)) in
+        let does : performWorker (renumber m) (renumberWorkerMove d) ≡ renumberDone (performWorker m d) = rw (push-renumber (d .push) (m .buffer), count-renumber (d .push) (m .spacing)) in
         ap (λ v. performWorker (renumber m) (workerMove (renumberWorker c) v)) sees ∙ ap (performWorker (renumber m)) (work-renumber c (workerView m c)) ∙ does
 
     thief-step-renumber : (i : ℕ) (m : Machine) (c : ThiefCall)
@@ -306,7 +311,7 @@ module _ (f : ℕ → ℕ) where
     -- each entry, each list
     obey-in-range-renumber : (m : Machine) (e : Entry) → obeyInRange (renumber m) (renumberEntry f e) ≡ renumberDone (obeyInRange m e)
     obey-in-range-renumber m Drain = drain-renumber m
-    obey-in-range-renumber m ClientStore = unless-renumber m _ (rw (push-renumber (One Client) (m .buffer)) (cond-map renumberDone (hasRoom m) refl refl))
+    obey-in-range-renumber m ClientStore = unless-renumber m _ (rw (push-renumber (One TheClient Client) (m .buffer)) (cond-map renumberDone (hasRoom m) refl refl))
     obey-in-range-renumber m (BeginPut x) = unless-renumber m (workerGoesOn (PutLoadHead x) m) refl
     obey-in-range-renumber m BeginTake = unless-renumber m _ (cond-map renumberDone (tooEarly (m .spacing) (m .sizes .spacing)) refl refl)
     obey-in-range-renumber m WorkerStep = worker-step-renumber m (m .worker .call)

@@ -9,12 +9,15 @@ pub use Rattle.stores.specs.declared.index.Load.{Load}
 pub use Rattle.stores.specs.declared.index.Load.the-variants.{NoSlot, SlotOf}
 pub use Rattle.machine.specs.declared.machine.Done.{Done}
 pub use Rattle.machine.specs.declared.machine.Machine.{Machine}
+pub use Rattle.stores.specs.declared.spacing.Spacing.{Spacing}
 pub use Rattle.stores.specs.declared.store_buffer.Store.{Store}
 pub use Rattle.stores.specs.declared.store_buffer.StoreBuffer.{StoreBuffer}
 pub use Rattle.stores.specs.declared.store_buffer.StoreKind.{StoreKind}
 pub use Rattle.stores.specs.declared.store_buffer.StoreKind.the-variants.{Client, Tail, Slot}
 pub use Rattle.stores.specs.declared.store_buffer.Push.{Push}
 pub use Rattle.stores.specs.declared.store_buffer.Push.the-variants.{Nothing, One}
+pub use Rattle.stores.specs.declared.store_buffer.Maker.{Maker}
+pub use Rattle.stores.specs.declared.store_buffer.Maker.the-variants.{TheClient, APut, ATake}
 pub use Rattle.machine.specs.declared.thief.Thief.{Thief}
 pub use Rattle.machine.specs.declared.thief.ThiefCall.{ThiefCall}
 pub use Rattle.machine.specs.declared.thief.ThiefCall.the-variants.{StealLock, StealLoadHead, StealRaiseHead, StealLoadTail, StealLoadSlot, StealUnlockTask, StealRestoreHead, StealUnlockAbort}

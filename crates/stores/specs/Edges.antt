@@ -5,11 +5,11 @@ use Prim.Native.Nat.{ℕ}
 use lib.Dec.{eqb}
 use lib.IntN.{ℤ, pos, negsuc}
 use lib.ListN.{length, replicate}
-use Rattle.stores.specs.Types.{Index, Nobody, Slot, Spacing, Store, StoreBuffer, TheThief, TheWorker}
+use Rattle.stores.specs.Types.{APut, ATake, Client, Index, Nobody, Nothing, One, Slot, Spacing, Tail, TheClient, Store, StoreBuffer, TheThief, TheWorker}
 use Rattle.stores.specs.Index.{aboveBy, belowByMore, eqZ, indexInRange, nextOrSame, previousOrSame, slotIndexInRange, slotOf}
 use Rattle.stores.specs.Lock.{isNobody}
 use Rattle.stores.specs.StoreBuffer.{clientStore, dropOldestOrSame, pending, pushOrSame, slotAfter, storeInRange, tailStore}
-use Rattle.stores.specs.Spacing.{countedOrSame, noTake, spacingInRange, takeBegins, tooEarly}
+use Rattle.stores.specs.Spacing.{countedInOrSame, countedOrSame, noTake, spacingInRange, takeBegins, tooEarly}
 
 abbrev pub index : ℤ → Index
 index z = record { at = z }
@@ -83,10 +83,12 @@ buffers =
     ∷ eqb (length (pending (holding 65))) 64
     ∷ []
 
--- stores count once a take has begun, from 0 again at each, and the first take is free
+-- stores count once a take has begun, and the first take is free; a put's count as the client's do, a take's do not
 abbrev pub spacings : List Bool
 spacings =
-    eqb (countedOrSame (counting 4096 true) .count) 4097
+    eqb (countedOrSame (counting 64 true) .count) 65
+    ∷ eqb (countedOrSame (counting 4095 true) .count) 4096
+    ∷ eqb (countedOrSame (counting 4096 true) .count) 4097
     ∷ eqb (countedOrSame (counting 4097 true) .count) 4097
     ∷ eqb (countedOrSame noTake .count) 0
     ∷ eqb (countedOrSame (counting 5 false) .count) 0
@@ -94,6 +96,11 @@ spacings =
     ∷ tooEarly takeBegins 1
     ∷ not (tooEarly (countedOrSame takeBegins) 1)
     ∷ tooEarly (countedOrSame takeBegins) 2
+    ∷ eqb (countedInOrSame Nothing (counting 1 true) .count) 1
+    ∷ eqb (countedInOrSame (One TheClient Client) (counting 1 true) .count) 2
+    ∷ eqb (countedInOrSame (One APut (Slot 1 (index (pos 0)))) (counting 1 true) .count) 2
+    ∷ eqb (countedInOrSame (One APut (Tail (index (pos 1)))) (counting 1 true) .count) 2
+    ∷ eqb (countedInOrSame (One ATake (Tail (index (pos 1)))) (counting 1 true) .count) 1
     ∷ []
 
 abbrev pub edges : List Bool

@@ -1,18 +1,25 @@
--- The spacing rule. Renders the paragraph on it in "The machine", and, of "Parts", the range of the spacing count.
+-- The spacing rule. Renders the paragraph on it in "The machine", as request 1 widens it, and, of "Parts", the range of the spacing count. That a take which is too early gets 6 EARLY, and
+-- that the count begins anew as a take begins, is in `Entries`, of `machine`.
 use mathlib.Core.Bool.{Bool, true, false, cond, _&&_}
 use Prim.Native.Nat.{ℕ, _+_}
 use lib.Dec.{leb, ltb}
-use Rattle.stores.specs.Types.{Spacing}
+use Rattle.stores.specs.Types.{Maker, TheClient, APut, ATake, Push, Nothing, One, Spacing}
 
 -- before the first take the count is 0
 abbrev pub noTake : Spacing
 noTake = record { count = 0; begun = false }
 
--- a take that begins is the one that client stores are counted from
+-- as a take begins: stores are counted from here
 abbrev pub takeBegins : Spacing
 takeBegins = record { count = 0; begun = true }
 
--- one more client store, which counts only once a take has begun; until then the count is 0
+-- the rule: whose stores count. A client's and a put's do; a take's do not, not even the tail that it puts back.
+abbrev pub counts : Maker → Bool
+counts TheClient = true
+counts APut = true
+counts ATake = false
+
+-- after one more store that counts: one more once a take has begun; until then the count is 0
 abbrev pub counted : Spacing → Spacing
 counted s = record { count = cond (s .begun) (s .count + 1) 0; begun = s .begun }
 
@@ -20,7 +27,17 @@ counted s = record { count = cond (s .begun) (s .count + 1) 0; begun = s .begun 
 abbrev pub countedOrSame : Spacing → Spacing
 countedOrSame s = cond (ltb 4096 (s .count)) s (counted s)
 
--- a take has begun before, and fewer client stores were counted since then than the spacing
+-- the count after an entry, by the store that it has made pending; an entry that makes none leaves it, and so a put that answers FULL or END
+abbrev pub countedIn : Push → Spacing → Spacing
+countedIn Nothing s = s
+countedIn (One maker kind) s = cond (counts maker) (counted s) s
+
+-- .. where a count out of range stays as it is
+abbrev pub countedInOrSame : Push → Spacing → Spacing
+countedInOrSame Nothing s = s
+countedInOrSame (One maker kind) s = cond (counts maker) (countedOrSame s) s
+
+-- a take has begun before, and fewer stores were counted since then than the spacing
 abbrev pub tooEarly : Spacing → ℕ → Bool
 tooEarly s spacing = s .begun && ltb (s .count) spacing
 

@@ -1,5 +1,5 @@
 -- The store buffer. Renders, of the first paragraph of "The machine", the worker's pending stores, their drain and what the worker loads.
--- (How many may be pending: `hasRoom`, of `machine`.) It knows nothing of a queue's calls.
+-- (How many may be pending: `hasRoom`, of `machine`.) It knows nothing of a queue's steps.
 use mathlib.Core.Bool.{Bool, true, cond, _||_}
 use mathlib.Core.List.{List, _∷_, _++_, foldl}
 use Prim.Native.Nat.{ℕ, _+_, _-_, _<_}
@@ -42,14 +42,14 @@ push s b = record { stores = set (b .stores) (b .count) s; count = b .count + 1 
 abbrev pub pushOrSame : Store → StoreBuffer → StoreBuffer
 pushOrSame s b = cond (leb 64 (b .count)) b (push s b)
 
--- the buffer with the store that a step makes, if it makes one
+-- the buffer with the store that an entry makes, if it makes one, whoever makes it
 abbrev pub pushedIn : Push → StoreBuffer → StoreBuffer
 pushedIn Nothing b = b
-pushedIn (One k) b = push (record { kind = k }) b
+pushedIn (One maker kind) b = push (record { kind = kind }) b
 
 abbrev pub pushedOrSame : Push → StoreBuffer → StoreBuffer
 pushedOrSame Nothing b = b
-pushedOrSame (One k) b = pushOrSame (record { kind = k }) b
+pushedOrSame (One maker kind) b = pushOrSame (record { kind = kind }) b
 
 -- the store that has been pending longest; what the first cell holds, where none is
 abbrev pub oldest : StoreBuffer → Store

@@ -12,3 +12,5 @@ pub use Rattle.stores.specs.declared.store_buffer.StoreKind.{StoreKind}
 pub use Rattle.stores.specs.declared.store_buffer.StoreKind.the-variants.{Client, Tail, Slot}
 pub use Rattle.stores.specs.declared.store_buffer.Push.{Push}
 pub use Rattle.stores.specs.declared.store_buffer.Push.the-variants.{Nothing, One}
+pub use Rattle.stores.specs.declared.store_buffer.Maker.{Maker}
+pub use Rattle.stores.specs.declared.store_buffer.Maker.the-variants.{TheClient, APut, ATake}

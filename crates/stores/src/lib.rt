@@ -1,11 +1,11 @@
 // What a work-stealing queue on a machine with late stores is made of, whichever queue it is: positions, the lock, and the worker's store
-// buffer. Nothing here knows a call of any queue, and nothing asks anything of its caller: out of range an operation hands back what it was
+// buffer. Nothing here knows a step of any queue, and nothing asks anything of its caller: out of range an operation hands back what it was
 // given, or 0, or false. Reading order:
 //
 // - `index`: a position of the queue, a signed number that never wraps; the slot in which it lies; its neighbours and distances;
 // - `lock`: the lock, and who holds it;
-// - `store_buffer`: a store, what it leaves in memory, and the stores that have not reached memory;
-// - `spacing`: how far takes are kept apart.
+// - `store_buffer`: a store, who makes it, what it leaves in memory, and the stores that have not reached memory;
+// - `spacing`: how far takes are kept apart, and whose stores do so.
 mod index;
 mod lock;
 mod spacing;
@@ -17,6 +17,7 @@ pub use index::slot_of;
 pub use lock::Holder;
 pub use lock::Lock;
 pub use spacing::Spacing;
+pub use store_buffer::Maker;
 pub use store_buffer::Push;
 pub use store_buffer::Store;
 pub use store_buffer::StoreBuffer;

@@ -1,13 +1,28 @@
+use crate::store_buffer::Maker;
+use crate::store_buffer::Push;
 ghost use mathlib.Core.Path.{_≡_};
 ghost use Prim.Native.Nat.{_≤_};
-ghost use Rattle.stores.specs.Spacing.{countedOrSame, spacingInRange, takeBegins, tooEarly};
+ghost use Rattle.stores.specs.Spacing.{countedInOrSame, countedOrSame, counts, spacingInRange, takeBegins, tooEarly};
 
 // What the spacing rule goes by.
 pub struct Spacing {
-    // The spacing count: client stores made since the last take began, and 0 before the first.
+    // The spacing count: the stores that count, made since the last take began; 0 before the first.
     pub count: u32,
     // Whether a take has begun.
     pub begun: bool,
+}
+
+impl Maker {
+    // Whether its stores count.
+    pub fn counts(self) -> bool
+        ensures { λ r. ⌜ r ≡ counts self ⌝ }
+    {
+        match self {
+            Maker::TheClient => true,
+            Maker::APut => true,
+            Maker::ATake => false,
+        }
+    }
 }
 
 impl Spacing {
@@ -18,8 +33,8 @@ impl Spacing {
         self.count <= 4096
     }
 
-    // After one more client store. A count out of range stays as it is.
-    pub fn counted(self) -> Spacing
+    // After one more store that counts. A count out of range stays as it is.
+    fn counted(self) -> Spacing
         ensures { λ r. ⌜ r ≡ countedOrSame self ⌝ }
     {
         let count = self.count;
@@ -36,6 +51,21 @@ impl Spacing {
         Spacing {
             count: 0,
             begun: begun,
+        }
+    }
+
+    // After the store that an entry makes, if it makes one and it counts. A count out of range stays as it is.
+    pub fn counted_in(self, made: Push) -> Spacing
+        ensures { λ r. ⌜ r ≡ countedInOrSame made self ⌝ }
+    {
+        match made {
+            Push::Nothing => return self,
+            Push::One(maker, _) => {
+                if maker.counts() {
+                    return self.counted();
+                }
+                return self;
+            }
         }
     }
 

@@ -31,10 +31,20 @@ pub struct Store {
     pub kind: StoreKind,
 }
 
-// The store that a step makes, if it makes one.
+// Who makes a store.
+pub enum Maker {
+    // The program around the queue.
+    TheClient,
+    // A put of the worker's.
+    APut,
+    // A take of the worker's.
+    ATake,
+}
+
+// The store that an entry makes, with who makes it, if it makes one.
 pub enum Push {
     Nothing,
-    One(StoreKind),
+    One(Maker, StoreKind),
 }
 
 // The stores that the worker has made and that have not reached memory, oldest first.
@@ -200,13 +210,13 @@ impl StoreBuffer {
         self
     }
 
-    // With the store that a step makes, if it makes one and a cell is free.
+    // With the store that an entry makes, if it makes one and a cell is free.
     pub fn pushed(self, made: Push) -> StoreBuffer
         ensures { λ r. ⌜ r ≡ pushedOrSame made self ⌝ }
     {
         match made {
             Push::Nothing => return self,
-            Push::One(kind) => {
+            Push::One(_, kind) => {
                 let store = Store { kind: kind };
                 return self.push(store);
             }

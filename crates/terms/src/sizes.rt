@@ -9,7 +9,7 @@ pub struct Sizes {
     pub slots: u32,
     // How many stores may be pending. (Their S.)
     pub buffer: u32,
-    // How many client stores there are at least between the beginnings of two takes. (Their x.)
+    // How many stores that are no take's there are at least between the beginnings of two takes. (Their x.)
     pub spacing: u32,
     // A thief steals only where the tail that it sees is more than this far beyond the head that it loaded. 0 stands for
     // the buffer size. (Their delta.)

@@ -7,7 +7,8 @@ use reference::plain_queue::{judge, Verdict as Judgement};
 use crate::checks::{Case, Ran, Verdict};
 use crate::random::Random;
 use crate::schedule::{
-    Draft, ABORT, BUFFER, FULL, LAST_INDEX, MARGIN, SPACING, START, TASK, THIEF_STEP, THIEVES,
+    Draft, ABORT, BEGIN_TAKE, BUFFER, CLIENT_STORE, FULL, LAST_INDEX, MARGIN, MOVED, SPACING,
+    START, TASK, THIEF_STEP, THIEVES,
 };
 use crate::script::Script;
 use crate::tally::{Count, Tally};
@@ -36,6 +37,7 @@ fn count_enough(draft: &Draft, ran: &Ran, tally: &mut Tally) {
         (Count::EnoughSeveralThieves, draft.sizes[THIEVES] > 1),
         (Count::EnoughStolen, stolen),
         (Count::EnoughFull, ran.outcomes.contains(&FULL)),
+        (Count::EnoughApartByPuts, has_takes_apart_by_puts(draft, ran)),
         (
             Count::EnoughNearLastIndex,
             draft.sizes[START] > LAST_INDEX - 300,
@@ -45,6 +47,23 @@ fn count_enough(draft: &Draft, ran: &Ran, tally: &mut Tally) {
             tally.count(count);
         }
     }
+}
+
+/// Whether a take began that the spacing rule would have held back, had no put
+/// stored anything: the client has stored nothing since the take before.
+fn has_takes_apart_by_puts(draft: &Draft, ran: &Ran) -> bool {
+    let mut client_stored = None;
+    for (entry, outcome) in draft.entries.iter().zip(&ran.outcomes) {
+        match (entry.0, *outcome) {
+            (BEGIN_TAKE, MOVED) if client_stored == Some(false) => {
+                return draft.sizes[SPACING] > 0;
+            }
+            (BEGIN_TAKE, MOVED) => client_stored = Some(false),
+            (CLIENT_STORE, MOVED) => client_stored = client_stored.map(|_| true),
+            _ => {}
+        }
+    }
+    false
 }
 
 fn judged(file: &[u8]) -> Judgement {

@@ -69,6 +69,7 @@ pub fn all() -> Vec<Rehearsal> {
         ("story-lock-wait", lock_wait()),
         ("story-full", full()),
         ("story-end", end()),
+        ("story-puts-between-takes", puts_between()),
         ("story-refused", refused()),
     ];
     told.map(named).into()
@@ -218,6 +219,16 @@ fn end() -> Script {
     let stored = Script::new([8, 2, 0, 0, 1, LAST_INDEX - 2]);
     let stored = stored.put(401).drains(2).put(402).drains(2);
     stored.put_ends(403, END).take(402).drains(1).put(403)
+}
+
+/// The client stores nothing: the two stores of one put are not enough for a
+/// spacing of 4, those of two puts are.
+fn puts_between() -> Script {
+    let stored = Script::new([8, 8, 4, 2, 1, 0]);
+    let stored = stored.put(501).drains(2).put(502).drains(2);
+    let early = stored.take(502).gets(BEGIN_TAKE, 0, EARLY, 0);
+    let early = early.put(503).gets(BEGIN_TAKE, 0, EARLY, 0);
+    early.put(504).take(504)
 }
 
 /// The third entry asks for a second thief, where there is one only.

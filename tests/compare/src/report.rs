@@ -29,11 +29,12 @@ const PAIRS: [(&str, Count); 3] = [
     ("one refused", Count::AlikeRefused),
 ];
 
-const JUDGED: [(&str, Count); 7] = [
+const JUDGED: [(&str, Count); 8] = [
     ("margin enough, none differs", Count::JudgedEnough),
     ("  more than one thief", Count::EnoughSeveralThieves),
     ("  a thief got a task", Count::EnoughStolen),
     ("  a put found the queue full", Count::EnoughFull),
+    ("  puts alone kept takes apart", Count::EnoughApartByPuts),
     ("  start near the last index", Count::EnoughNearLastIndex),
     ("margin short", Count::JudgedShort),
     ("  of these the plain queue differs", Count::ShortHarmed),

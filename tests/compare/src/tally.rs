@@ -39,6 +39,7 @@ pub enum Count {
     EnoughSeveralThieves,
     EnoughStolen,
     EnoughFull,
+    EnoughApartByPuts,
     EnoughNearLastIndex,
     JudgedShort,
     ShortHarmed,

@@ -17,6 +17,26 @@ pub(crate) enum WorkerCall<T> {
     Take(Take),
 }
 
+/// What the spacing rule has to know about the latest take.
+#[derive(Debug, Clone, Copy, PartialEq, Eq, Default)]
+pub(crate) struct SinceTake {
+    /// Whether there has been a take at all.
+    pub(crate) begun: bool,
+    /// The stores since it began that keep the next take apart from it.
+    pub(crate) stores: u32,
+}
+
+impl SinceTake {
+    /// Until the first take the count is 0, whatever it was handed over as.
+    fn count_store(&mut self) {
+        self.stores = if self.begun { self.stores + 1 } else { 0 };
+    }
+
+    fn is_early(&self, spacing: u32) -> bool {
+        self.begun && self.stores < spacing
+    }
+}
+
 #[derive(Debug, Clone)]
 pub(crate) struct Bench<T> {
     machine: Machine<T>,
@@ -24,15 +44,14 @@ pub(crate) struct Bench<T> {
     thieves: Vec<Option<Steal<T>>>,
     margin: i64,
     spacing: u32,
-    /// Client stores since the latest take began; none has begun at first,
-    /// and no count runs before one has.
-    stores_since_take: Option<u32>,
+    since_take: SinceTake,
 }
 
 impl<T: Copy + Default> Bench<T> {
     pub(crate) fn new(sizes: &Sizes) -> Self {
         let thieves = vec![None; sizes.thieves as usize];
-        Bench::resumed(sizes, Machine::new(sizes), None, thieves, None)
+        let since_take = SinceTake::default();
+        Bench::resumed(sizes, Machine::new(sizes), None, thieves, since_take)
     }
 
     /// A bench that is taken up in the middle of things, with one place in
@@ -42,7 +61,7 @@ impl<T: Copy + Default> Bench<T> {
         machine: Machine<T>,
         worker: Option<WorkerCall<T>>,
         thieves: Vec<Option<Steal<T>>>,
-        stores_since_take: Option<u32>,
+        since_take: SinceTake,
     ) -> Self {
         Bench {
             machine,
@@ -50,13 +69,14 @@ impl<T: Copy + Default> Bench<T> {
             thieves,
             margin: i64::from(sizes.margin_in_use()),
             spacing: sizes.spacing,
-            stores_since_take,
+            since_take,
         }
     }
 
     /// Obeys one entry; a thief it names must be one of the bench's.
     pub(crate) fn obey(&mut self, entry: Entry<T>) -> Outcome<T> {
-        match entry {
+        let keeps_takes_apart = self.keeps_takes_apart(entry);
+        let outcome = match entry {
             Entry::Drain => moved_or_wait(self.machine.drain()),
             Entry::ClientStore => self.client_store(),
             Entry::BeginPut(task) => {
@@ -66,6 +86,25 @@ impl<T: Copy + Default> Bench<T> {
             Entry::WorkerStep => self.worker_step(),
             Entry::BeginSteal(thief) => begin(&mut self.thieves[thief as usize], Steal::Lock),
             Entry::ThiefStep(thief) => self.thief_step(thief as usize),
+        };
+        if keeps_takes_apart && !outcome.is_refused() {
+            self.since_take.count_store();
+        }
+        outcome
+    }
+
+    /// Whether the entry, once obeyed, has made a store that lies between two
+    /// takes: the client's or a put's. What a take stores is its own affair.
+    fn keeps_takes_apart(&self, entry: Entry<T>) -> bool {
+        match entry {
+            Entry::ClientStore => true,
+            Entry::WorkerStep => matches!(
+                self.worker,
+                Some(WorkerCall::Put(
+                    Put::StoreSlot { .. } | Put::StoreTail { .. }
+                ))
+            ),
+            _ => false,
         }
     }
 
@@ -73,24 +112,20 @@ impl<T: Copy + Default> Bench<T> {
         if self.worker.is_some() {
             return Outcome::Place;
         }
-        let stored = self.machine.client_store();
-        if let (Ok(()), Some(count)) = (stored, &mut self.stores_since_take) {
-            *count += 1;
-        }
-        moved_or_wait(stored)
+        moved_or_wait(self.machine.client_store())
     }
 
     fn begin_take(&mut self) -> Outcome<T> {
         if self.worker.is_some() {
             return Outcome::Place;
         }
-        if self
-            .stores_since_take
-            .is_some_and(|count| count < self.spacing)
-        {
+        if self.since_take.is_early(self.spacing) {
             return Outcome::Early;
         }
-        self.stores_since_take = Some(0);
+        self.since_take = SinceTake {
+            begun: true,
+            stores: 0,
+        };
         begin(&mut self.worker, WorkerCall::Take(Take::StoreTail))
     }
 
@@ -131,8 +166,8 @@ impl<T: Copy + Default> Bench<T> {
         self.thieves[thief as usize]
     }
 
-    pub(crate) fn stores_since_take(&self) -> Option<u32> {
-        self.stores_since_take
+    pub(crate) fn since_take(&self) -> SinceTake {
+        self.since_take
     }
 
     pub(crate) fn no_call_runs(&self) -> bool {

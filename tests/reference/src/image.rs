@@ -8,7 +8,7 @@
 mod calls;
 mod range;
 
-use crate::bench::Bench;
+use crate::bench::{Bench, SinceTake};
 use crate::entry::Entry;
 use crate::machine::{Machine, Memory, Store, Wait};
 use crate::outcome::{Outcome, Totals};
@@ -146,8 +146,15 @@ impl Image {
             thieves
                 .map(|which| steal(self.cells(THIEVES, which)))
                 .collect(),
-            (self.0[TAKE_BEGUN] != 0).then_some(self.0[SPACING_COUNT] as u32),
+            self.since_take(),
         ))
+    }
+
+    fn since_take(&self) -> SinceTake {
+        SinceTake {
+            begun: self.0[TAKE_BEGUN] != 0,
+            stores: self.0[SPACING_COUNT] as u32,
+        }
     }
 
     fn memory(&self, sizes: &Sizes) -> Memory<u32> {
@@ -167,7 +174,7 @@ impl Image {
     fn follow(&mut self, bench: &Bench<u32>, entry: Entry<u32>) {
         self.follow_memory(bench.machine().memory(), entry);
         self.follow_stores(bench.machine().pending());
-        self.follow_spacing(bench.stores_since_take(), entry);
+        self.follow_spacing(bench.since_take());
         match entry {
             Entry::Drain => {}
             Entry::BeginSteal(thief) | Entry::ThiefStep(thief) => {
@@ -178,16 +185,9 @@ impl Image {
         }
     }
 
-    fn follow_spacing(&mut self, stores_since_take: Option<u32>, entry: Entry<u32>) {
-        match stores_since_take {
-            Some(count) => {
-                self.0[SPACING_COUNT] = i64::from(count);
-                self.0[TAKE_BEGUN] = 1;
-            }
-            // Until the first take the count is 0, whatever the row had.
-            None if entry == Entry::ClientStore => self.0[SPACING_COUNT] = 0,
-            None => {}
-        }
+    fn follow_spacing(&mut self, since_take: SinceTake) {
+        self.0[SPACING_COUNT] = i64::from(since_take.stores);
+        self.0[TAKE_BEGUN] = i64::from(since_take.begun);
     }
 
     fn follow_memory(&mut self, memory: &Memory<u32>, entry: Entry<u32>) {

@@ -3,6 +3,8 @@
 //! A [`Stage`] obeys and remembers: when its story ends, the same entries go
 //! through the schedule file, and the trace must tell the story again.
 
+mod spacing;
+
 use crate::bench::Bench;
 use crate::entry::Entry;
 use crate::outcome::Outcome::{
@@ -326,61 +328,6 @@ fn m8_takes_keep_their_spacing() {
     });
     assert_eq!(stage.take_with_drains(), Empty);
     assert_eq!(stage.begin_take(), Early);
-    assert_eq!(stage.client_store(), Moved);
-    assert_eq!(stage.begin_take(), Moved);
-    stage.ends_well();
-}
-
-#[test]
-fn only_stores_after_a_take_count_for_the_spacing() {
-    let mut stage = Stage::new(Sizes {
-        spacing: 1,
-        buffer: 4,
-        margin: 0,
-        ..ROOMY
-    });
-    assert_eq!(stage.client_store(), Moved);
-    assert_eq!(stage.client_store(), Moved);
-    assert_eq!(stage.take_with_drains(), Empty);
-    assert_eq!(stage.begin_take(), Early, "earlier stores are no savings");
-    assert_eq!(stage.put(1), Stored);
-    assert_eq!(
-        stage.begin_take(),
-        Early,
-        "the queue's stores are not the client's"
-    );
-    assert_eq!(stage.client_store(), Moved);
-    assert_eq!(stage.client_store(), Moved);
-    assert_eq!(stage.client_store(), Wait, "the buffer is full");
-    assert_eq!(stage.begin_take(), Moved);
-    assert_eq!(
-        stage.begin_take(),
-        Place,
-        "a running call is looked at first"
-    );
-    stage.drain_all();
-    assert_eq!(stage.worker_goes_on(), Task(1));
-    assert_eq!(
-        stage.begin_take(),
-        Early,
-        "a take uses up all stores before it"
-    );
-    stage.ends_well();
-}
-
-#[test]
-fn a_client_store_that_waits_is_none() {
-    let mut stage = Stage::new(Sizes {
-        spacing: 2,
-        buffer: 1,
-        margin: 0,
-        ..ROOMY
-    });
-    assert_eq!(stage.take_with_drains(), Empty);
-    assert_eq!(stage.client_store(), Moved);
-    assert_eq!(stage.client_store(), Wait);
-    assert_eq!(stage.begin_take(), Early);
-    assert_eq!(stage.drain(), Moved);
     assert_eq!(stage.client_store(), Moved);
     assert_eq!(stage.begin_take(), Moved);
     stage.ends_well();

@@ -76,10 +76,10 @@ impl Sizes {
 
 /// The most tail stores of takes that the store buffer can hold at once.
 ///
-/// Between two of them lie `spacing` client stores, so the answer is
-/// buffer / (spacing + 1), rounded up. It is the exact quotient for every pair
-/// of numbers, also for those no schedule may have: 64-bit arithmetic keeps
-/// spacing + 1 from wrapping around.
+/// Between two of them lie `spacing` other stores at least, the client's or a
+/// put's, so the answer is buffer / (spacing + 1), rounded up. It is the exact
+/// quotient for every pair of numbers, also for those no schedule may have:
+/// 64-bit arithmetic keeps spacing + 1 from wrapping around.
 pub fn needed_margin(buffer: u32, spacing: u32) -> u32 {
     let quotient = u64::from(buffer).div_ceil(u64::from(spacing) + 1);
     u32::try_from(quotient).expect("a quotient is no larger than its dividend")

@@ -284,10 +284,78 @@ fn no_count_runs_before_the_first_take() {
     assert_eq!(odd.moved(1, 0).part(COUNT, 2), [0, 0]);
     assert_eq!(odd.moved(2, 9).part(COUNT, 2), [1, 0]);
     assert_eq!(odd.moved(3, 0).part(COUNT, 2), [0, 1]);
+    for (step, count) in [(1, 1), (2, 0), (3, 0), (4, 1), (9, 1)] {
+        for row in [&row, &odd] {
+            let after = row.with(WORKER, &[step]).step(4, 0).2;
+            let count = if row == &odd { count } else { 0 };
+            assert_eq!(after.part(COUNT, 2), [count, 0], "worker's step {step}");
+        }
+    }
     let begun = odd.with(BEGUN, &[1]);
     assert_eq!(begun.step(3, 0), (6, 0, begun.clone()));
     assert_eq!(begun.moved(1, 0).part(COUNT, 2), [2, 1]);
     assert_eq!(begun.moved(1, 0).moved(3, 0).part(COUNT, 2), [0, 1]);
+}
+
+#[test]
+fn a_put_counts_its_two_stores_as_they_become_pending() {
+    let row = Row::fresh(&ROOMY).with(COUNT, &[5, 1]).moved(2, 9);
+    assert_eq!(row.part(COUNT, 2), [5, 1]);
+    let row = row.moved(4, 0);
+    assert_eq!(row.part(COUNT, 2), [5, 1]);
+    let row = row.moved(4, 0);
+    assert_eq!(row.part(COUNT, 2), [6, 1]);
+    let row = row.step(4, 0).2;
+    assert_eq!(row.part(COUNT, 2), [7, 1]);
+    assert_eq!(row.moved(0, 0).moved(0, 0).part(COUNT, 2), [7, 1]);
+
+    for step in [2, 3] {
+        let full = row.with(PENDING, &[3]).with(WORKER, &[step]);
+        assert_eq!(full.step(4, 0), (7, 0, full.clone()));
+    }
+}
+
+#[test]
+fn a_put_that_stores_nothing_counts_nothing() {
+    let row = Row::fresh(&ROOMY).with(COUNT, &[5, 1]).moved(2, 9);
+    for (tail, answer) in [(3, 20), (TOP - 1, 21)] {
+        let (number, _, after) = row.with(TAIL, &[tail]).step(4, 0);
+        assert_eq!(number, answer);
+        assert_eq!(after.part(COUNT, 2), [5, 1]);
+    }
+}
+
+/// What the rule makes of the count, said once more over the row's numbers.
+fn count_after(row: &Row, kind: u8, number: u8) -> [i64; 2] {
+    let (count, begun) = (row.at(COUNT), row.at(BEGUN));
+    let stores = match kind {
+        1 => true,
+        4 => matches!(row.at(WORKER), 2 | 3),
+        _ => false,
+    };
+    match (kind, begun) {
+        _ if matches!(number, 5..=7) => [count, begun],
+        (3, _) => [0, 1],
+        (_, 0) if stores => [0, 0],
+        _ if stores => [count + 1, begun],
+        _ => [count, begun],
+    }
+}
+
+#[test]
+fn any_machine_counts_by_the_rule() {
+    let mut dice = Dice::new(23);
+    let mut counted = [0; 2];
+    for _ in 0..20_000 {
+        let row = dice.row();
+        let kind = dice.pick(&[0, 1, 2, 3, 4, 4, 4, 4, 5, 6]);
+        let (number, _, after) = row.step(kind, 0);
+        assert_eq!(after.part(COUNT, 2), count_after(&row, kind, number));
+        if after.at(COUNT) > row.at(COUNT) {
+            counted[usize::from(kind == 4)] += 1;
+        }
+    }
+    assert!(counted.iter().all(|&times| times > 50), "{counted:?}");
 }
 
 #[test]

@@ -26,6 +26,37 @@ fn enough_margin_leaves_nothing_to_find() {
     }
 }
 
+/// How many takes began but for the first, whose spacing nobody asks for.
+fn later_takes(file: &[u8], entries: &[(u8, u32)]) -> usize {
+    let mut trace = vec![0; 4 + 5 * entries.len()];
+    run(file, &mut trace).unwrap();
+    let outcomes = &trace[4..4 + entries.len()];
+    let begun = entries.iter().zip(outcomes);
+    let begun = begun.filter(|&(&(kind, _), &outcome)| kind == 3 && outcome == 0);
+    begun.count().saturating_sub(1)
+}
+
+/// Without a client store only puts keep takes apart, and the needed margin
+/// is no other for that.
+#[test]
+fn puts_alone_keep_takes_apart() {
+    let mut dice = Dice::new(5);
+    let mut takes = 0;
+    for _ in 0..4000 {
+        let mut sizes = Sizes {
+            spacing: dice.pick(&[1, 1, 2, 3, 4]),
+            ..dice.sizes()
+        };
+        sizes.margin = needed_margin(sizes.buffer, sizes.spacing);
+        let mut entries = dice.entries(&sizes, 1000);
+        entries.retain(|&(kind, _)| kind != 1);
+        let file = file(sizes, &entries);
+        assert_eq!(judge(&file), Ok(NOTHING), "{:?}", read(&file));
+        takes += later_takes(&file, &entries);
+    }
+    assert!(takes > 10_000, "{takes} takes after the first");
+}
+
 #[test]
 fn a_short_margin_is_found_out() {
     let mut dice = Dice::new(3);

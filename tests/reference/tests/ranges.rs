@@ -223,9 +223,43 @@ fn a_thief_may_step_out_of_range() {
 #[test]
 fn the_spacing_count_may_run_out_of_range() {
     let row = Row::fresh(&ROOMY).with(COUNT, &[4096, 1]);
-    let after = row.moved(1, 0);
-    assert_eq!(after.at(COUNT), 4097);
-    assert_out(&after);
+    let slot = row.with(WORKER, &[2, 0, 9]);
+    let tail = row.with(WORKER, &[3]);
+    for (row, kind, number) in [(&row, 1, 0), (&slot, 4, 0), (&tail, 4, 16)] {
+        let (outcome, _, after) = row.step(kind, 0);
+        assert_eq!((outcome, after.at(COUNT)), (number, 4097));
+        assert_eq!(after.at(PENDING), 1);
+        assert_out(&after);
+
+        let (outcome, _, after) = row.with(COUNT, &[4095]).step(kind, 0);
+        assert_eq!((outcome, after.at(COUNT)), (number, 4096));
+        assert_in(&after);
+
+        let (outcome, _, after) = row.with(COUNT + 1, &[0]).step(kind, 0);
+        assert_eq!((outcome, after.at(COUNT)), (number, 0));
+        assert_in(&after);
+    }
+}
+
+/// At its largest the count is no hindrance to what counts nothing.
+#[test]
+fn the_largest_spacing_count_stays_where_nothing_counts() {
+    let row = Row::fresh(&ROOMY).with(COUNT, &[4096, 1]);
+    let putting = row.with(WORKER, &[1, 0, 9]);
+    for (row, number) in [
+        (&putting, 0),
+        (&putting.with(TAIL, &[3]), 20),
+        (&putting.with(TAIL, &[TOP - 1]), 21),
+        (&row.with(WORKER, &[4]), 0),
+        (&row.with(WORKER, &[9]), 0),
+        (&row.with(WORKER, &[2]).with(PENDING, &[3]), 7),
+        (&row.with(WORKER, &[3]).with(PENDING, &[3]), 7),
+    ] {
+        let (outcome, _, after) = row.step(4, 0);
+        assert_eq!((outcome, after.at(COUNT)), (number, 4096));
+        assert_in(&after);
+    }
+    assert_eq!(row.moved(3, 0).part(COUNT, 2), [0, 1]);
 }
 
 /// A put ends at one tail only; one beyond it there is no such rule.

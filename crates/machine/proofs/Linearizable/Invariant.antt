@@ -94,7 +94,7 @@ locked TakeUnlockEmpty = true
 locked (TakeUnlockTask t) = true
 locked (TakeLoadLastSlot t) = false
 
--- The stores that are due behind the pending ones before a take may store again are at most the client stores that the spacing rule still
+-- The stores that are due behind the pending ones before a take may store again are at most the stores that the spacing rule still
 -- asks for. A take that has begun and not stored has waited for them all, and from its store on all are asked for again.
 abbrev pub Spaced : WorkerCall → ℕ → ℕ → ℕ → Type 0
 Spaced WorkerCall.Idle owed asked spacing = owed ≤ asked

@@ -11,17 +11,19 @@ use lib.Signed.{leZ}
 use borrow.Author.Tests.{eq-eqb, eqb-false, eqb-true, le-leb, leb-false, leb-true, lt-ltb, ltb-true, ne-eqb}
 use Rattle.terms.proofs.Laws.Tests.{decide, known}
 use Rattle.stores.specs.Index.{eqZ, next, slotOf}
+use Rattle.stores.specs.Spacing.{countedIn}
 use Rattle.stores.specs.StoreBuffer.{push, slotStore, storeInRange, tailStore}
 use Rattle.stores.proofs.Laws.Index.{idx, idx-above, idx-eq, idx-next, idx-slot-in-range}
 use Rattle.stores.proofs.Laws.Chain.{between, no-store, none, slot}
 use Rattle.stores.proofs.Laws.Slots.{slotAfter-apart}
 use Rattle.stores.proofs.Laws.Pending.{inside-cells, pushing, seen-tail}
+use Rattle.stores.proofs.Laws.Spacing.{countedIn-asked, countedIn-most}
 use Rattle.claim.specs.PlainQueue.{toldPut, PlainQueue}
 use Rattle.claim.specs.Calls.{aPut}
 use Rattle.claim.proofs.Turn.{answers-at-once, moves}
-use Rattle.machine.specs.Types.{Machine, Moved, Wait, Stored, Full, End, ThiefCall, WorkerCall, PutLoadHead, PutStoreSlot, PutStoreTail}
+use Rattle.machine.specs.Types.{Push, One, APut, Slot, Tail, Machine, Moved, Wait, Stored, Full, End, ThiefCall, WorkerCall, PutLoadHead, PutStoreSlot, PutStoreTail}
 use Rattle.machine.specs.Machine.{done, hasRoom, workerLoad, workerTail}
-use Rattle.machine.specs.Update.{pushed, withWorker}
+use Rattle.machine.specs.Update.{pushed, withSpacing, withWorker}
 use Rattle.machine.specs.Worker.{atEnd, isFull}
 use Rattle.machine.specs.Perform.{workerView, stepOfWorker}
 use Rattle.machine.specs.Entries.{workerGoesOn}
@@ -83,8 +85,11 @@ module _ {g : Environment} {n : ℕ} {m : Machine} {p : ThiefCall} (q : PlainQue
   -- ── Step 2 ──────────────────────────────────────────────────────────────────────────────────────────────────────────────────
 
   module _ (x : ℕ) (v : Sound g n m (PutStoreSlot x) p) (at : m .worker .call ≡ PutStoreSlot x) where
+    abbrev slot-made : Push
+    slot-made = One APut (Slot x (workerTail m))
+
     -- no task lies in the slot that is written, nor one that a thief is about to load
-    stores-slot : hasRoom m ≡ true → StepTurn v q (workerGoesOn PutStoreTail (pushed (slotStore (workerTail m) x) m))
+    stores-slot : hasRoom m ≡ true → StepTurn v q (workerGoesOn PutStoreTail (withSpacing (countedIn slot-made (m .spacing)) (pushed (slotStore (workerTail m) x) m)))
     stores-slot some-room =
         let room = ltb-true (m .buffer .count) (m .sizes .buffer) some-room in
         let cells = inside-cells (v .buffer) (v .sizes) room in
@@ -97,21 +102,21 @@ module _ {g : Environment} {n : ℕ} {m : Machine} {p : ThiefCall} (q : PlainQue
         rw (idx-slot-in-range seen, le-leb 1 seen (omega arith), le-leb seen 2147483649 (omega arith))
         in
         let sound =
-        rebuilt v (m .lock) (push a (m .buffer)) (m .spacing) PutStoreTail
-        (pushing (v .buffer) (v .sizes) room a bound 0 (v .buffer .owed) seen (omega arith) ranged (λ c few. slot x low (none (omega arith))))
+        rebuilt v (m .lock) (push a (m .buffer)) (countedIn slot-made (m .spacing)) PutStoreTail
+        (pushing (v .buffer) (v .sizes) room a bound 0 (v .buffer .owed - 1) seen (omega arith) ranged (λ c few. slot x low (none (omega arith))))
         (record { holds-tail = tt; floor = v .tail .floor; top = v .tail .top })
-        (v .spaced)
-        (omega (arith, v .counted))
+        (countedIn-asked slot-made (m .spacing) (m .sizes .spacing) (v .buffer .owed) (v .spaced))
+        (countedIn-most slot-made (m .spacing) n (v .counted))
         (v .lock)
         in
-        let m′ = afterWorker m (m .lock) (push a (m .buffer)) (m .spacing) PutStoreTail in
+        let m′ = afterWorker m (m .lock) (push a (m .buffer)) (countedIn slot-made (m .spacing)) PutStoreTail in
         let tail : workerTail m′ ≡ idx seen = pushed-workerTail a m cells ∙ seen-tail (v .buffer) in
         let filled : workerLoad m′ (idx seen) ≡ x =
         pushed-workerLoad a m (idx seen) cells
         ∙ ap (λ b. cond b x (workerLoad m (idx seen))) (eq-eqb (slotOf (m .sizes .slots) (idx seen)) (slotOf (m .sizes .slots) (idx seen)) refl)
         in
-        pushes v Moved [] a PutStoreTail
-        (ap (λ i. done Moved (afterWorker m (m .lock) (push (slotStore i x) (m .buffer)) (m .spacing) PutStoreTail)) (sym (seen-tail (v .buffer))))
+        pushes v Moved [] a (countedIn slot-made (m .spacing)) PutStoreTail
+        (ap (λ i. done Moved (afterWorker m (m .lock) (push (slotStore i x) (m .buffer)) (countedIn slot-made (m .spacing)) PutStoreTail)) (sym (seen-tail (v .buffer))))
         refl
         sound
         (λ g.
@@ -136,8 +141,11 @@ module _ {g : Environment} {n : ℕ} {m : Machine} {p : ThiefCall} (q : PlainQue
   -- ── Step 3 ──────────────────────────────────────────────────────────────────────────────────────────────────────────────────
 
   module _ (v : Sound g n m PutStoreTail p) (at : m .worker .call ≡ PutStoreTail) where
+    abbrev tail-made : Push
+    tail-made = One APut (Tail (next (workerTail m)))
+
     -- the task in the slot of the tail joins those that stand
-    stores-tail : hasRoom m ≡ true → StepTurn v q (done Stored (withWorker WorkerCall.Idle (pushed (tailStore (next (workerTail m))) m)))
+    stores-tail : hasRoom m ≡ true → StepTurn v q (done Stored (withWorker WorkerCall.Idle (withSpacing (countedIn tail-made (m .spacing)) (pushed (tailStore (next (workerTail m))) m))))
     stores-tail some-room =
         let room = ltb-true (m .buffer .count) (m .sizes .buffer) some-room in
         let cells = inside-cells (v .buffer) (v .sizes) room in
@@ -146,15 +154,15 @@ module _ {g : Environment} {n : ℕ} {m : Machine} {p : ThiefCall} (q : PlainQue
         let a = tailStore (idx (seen + 1)) in
         let x = workerLoad m (workerTail m) in
         let sound =
-        rebuilt v (m .lock) (push a (m .buffer)) (m .spacing) WorkerCall.Idle
+        rebuilt v (m .lock) (push a (m .buffer)) (countedIn tail-made (m .spacing)) WorkerCall.Idle
         (tail-raising v room (seen + 1) (omega arith) (omega arith))
         (record { holds-tail = tt; floor = omega arith; top = omega arith })
-        (v .spaced)
-        (omega (arith, v .counted))
+        (countedIn-asked tail-made (m .spacing) (m .sizes .spacing) (v .buffer .owed) (v .spaced))
+        (countedIn-most tail-made (m .spacing) n (v .counted))
         (v .lock)
         in
-        pushes v Stored (toldPut x false ∷ []) a WorkerCall.Idle
-        (ap (λ i. done Stored (afterWorker m (m .lock) (push (tailStore i) (m .buffer)) (m .spacing) WorkerCall.Idle))
+        pushes v Stored (toldPut x false ∷ []) a (countedIn tail-made (m .spacing)) WorkerCall.Idle
+        (ap (λ i. done Stored (afterWorker m (m .lock) (push (tailStore i) (m .buffer)) (countedIn tail-made (m .spacing)) WorkerCall.Idle))
         (sym (ap next (seen-tail (v .buffer)) ∙ idx-next seen)))
         refl
         sound

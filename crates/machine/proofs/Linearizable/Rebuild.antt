@@ -130,7 +130,7 @@ module _ {g : Environment} {n : ℕ} {m : Machine} {c : WorkerCall} {p : ThiefCa
       → Pending (m .sizes) (g .memory) (m .tail) (push (tailStore (idx u)) (m .buffer))
   tail-pushing = storing-tail (v .buffer) (v .sizes) room u
 
-  -- a raised tail is always a link
+  -- a raised tail is always a link, and one of the stores that are due
   abbrev pub tail-raising : v .buffer .seen < u → u ≤ 2147483649 → Pending (m .sizes) (g .memory) (m .tail) (push (tailStore (idx u)) (m .buffer))
   tail-raising = raising (v .buffer) (v .sizes) room u
 
@@ -212,23 +212,23 @@ module _ {g : Environment} {n : ℕ} {m : Machine} {c : WorkerCall} {p : ThiefCa
 
   -- an entry that makes a store, which is a as the chain has it
   pub pushes :
-      {d : Done} (o : Outcome) (told : List Told) (a : Store) (c′ : WorkerCall)
-      → done o (afterWorker m (m .lock) (push a (m .buffer)) (m .spacing) c′) ≡ d
+      {d : Done} (o : Outcome) (told : List Told) (a : Store) (spacing : Spacing) (c′ : WorkerCall)
+      → done o (afterWorker m (m .lock) (push a (m .buffer)) spacing c′) ≡ d
       → told ≡ toldIn (workerBegun m c) o (effect o)
-      → (sound : Sound g (n + 1) (afterWorker m (m .lock) (push a (m .buffer)) (m .spacing) c′) c′ p)
+      → (sound : Sound g (n + 1) (afterWorker m (m .lock) (push a (m .buffer)) spacing c′) c′ p)
       → (AgreesOn v q
       → Turn (m .sizes .slots) (workerBegun m c) (workerOwes m c) q told o e
-      (workerBegun (afterWorker m (m .lock) (push a (m .buffer)) (m .spacing) c′) c′)
-      (workerOwes (afterWorker m (m .lock) (push a (m .buffer)) (m .spacing) c′) c′)
+      (workerBegun (afterWorker m (m .lock) (push a (m .buffer)) spacing c′) c′)
+      (workerOwes (afterWorker m (m .lock) (push a (m .buffer)) spacing c′) c′)
       (AgreesOn sound))
       → WorkerTurn v q e effect d
-  pushes o told a c′ is told-is sound turn =
+  pushes o told a spacing c′ is told-is sound turn =
       record {
         outcome = o;
         told = told;
         lock = m .lock;
         buffer = push a (m .buffer);
-        spacing = m .spacing;
+        spacing = spacing;
         call = c′;
         is = is;
         told-is = told-is;

@@ -11,16 +11,17 @@ use borrow.Author.Tests.{leb-false, leb-true, ltb-true}
 use Rattle.terms.specs.Outcome.{isAnswer}
 use Rattle.terms.proofs.Laws.Tests.{and-left, decide, known}
 use Rattle.stores.specs.Index.{next, previous}
+use Rattle.stores.specs.Spacing.{countedIn}
 use Rattle.stores.specs.StoreBuffer.{push, tailStore}
 use Rattle.stores.proofs.Laws.Index.{idx, idx-le, idx-next, idx-previous}
 use Rattle.stores.proofs.Laws.Pending.{lowering, seen-tail}
-use Rattle.stores.proofs.Laws.Spacing.{asked}
+use Rattle.stores.proofs.Laws.Spacing.{asked, countedIn-asked, countedIn-most}
 use Rattle.claim.specs.PlainQueue.{toldTake, PlainQueue}
 use Rattle.claim.specs.Calls.{aTake, onlyWhere, toldOf}
 use Rattle.claim.proofs.Turn.{ends, moves, takes-effect, toldIn}
-use Rattle.machine.specs.Types.{WorkerStep, Nobody, TheWorker, Index, Lock, Machine, Outcome, Moved, Wait, Task, Empty, Store, ThiefCall, WorkerCall, TakeStoreTail, TakeLoadHead, TakeLoadSlot, TakeLock, TakeReloadHead, TakeRestoreTail, TakeUnlockEmpty, TakeUnlockTask, TakeLoadLastSlot}
+use Rattle.machine.specs.Types.{WorkerStep, Nobody, TheWorker, Index, Lock, Machine, Outcome, Moved, Wait, Task, Empty, Push, One, ATake, Tail, Store, ThiefCall, WorkerCall, TakeStoreTail, TakeLoadHead, TakeLoadSlot, TakeLock, TakeReloadHead, TakeRestoreTail, TakeUnlockEmpty, TakeUnlockTask, TakeLoadLastSlot}
 use Rattle.machine.specs.Machine.{done, hasRoom, lockIsFree, nothingPending, workerLoad, workerTail}
-use Rattle.machine.specs.Update.{pushed, withLock}
+use Rattle.machine.specs.Update.{pushed, withLock, withSpacing}
 use Rattle.machine.specs.Worker.{atOrAboveHead, headIsPast}
 use Rattle.machine.specs.Effect.{workerEffect}
 use Rattle.machine.specs.Linearizable.{workerOwes}
@@ -88,7 +89,7 @@ module _ {g : Environment} {n : ℕ} {m : Machine} {p : ThiefCall} (q : PlainQue
   -- ── Step 1 ──────────────────────────────────────────────────────────────────────────────────────────────────────────────────
 
   module _ (v : Sound g n m TakeStoreTail p) (at : m .worker .call ≡ TakeStoreTail) where
-    -- the store is a dip of the chain, since no client store is due
+    -- the store is a dip of the chain, since no store is due
     lowers : hasRoom m ≡ true → StepTurn v q (workerGoesOn (TakeLoadHead (previous (workerTail m))) (pushed (tailStore (previous (workerTail m))) m))
     lowers some-room =
         let room = ltb-true (m .buffer .count) (m .sizes .buffer) some-room in
@@ -103,7 +104,7 @@ module _ {g : Environment} {n : ℕ} {m : Machine} {p : ThiefCall} (q : PlainQue
         (omega (arith, v .counted))
         (v .lock)
         in
-        pushes v Moved [] a (TakeLoadHead (idx (seen - 1)))
+        pushes v Moved [] a (m .spacing) (TakeLoadHead (idx (seen - 1)))
         (ap (λ i. done Moved (afterWorker m (m .lock) (push (tailStore i) (m .buffer)) (m .spacing) (TakeLoadHead i))) lower)
         refl
         sound
@@ -186,21 +187,24 @@ module _ {g : Environment} {n : ℕ} {m : Machine} {p : ThiefCall} (q : PlainQue
   -- ── Step 5 where the task is gone ───────────────────────────────────────────────────────────────────────────────────────────
 
   module _ (t : Index) (v : Sound g n m (TakeRestoreTail t) p) (at : m .worker .call ≡ TakeRestoreTail t) where
-    restores : hasRoom m ≡ true → StepTurn v q (workerGoesOn TakeUnlockEmpty (pushed (tailStore (next t)) m))
+    abbrev made : Push
+    made = One ATake (Tail (next t))
+
+    restores : hasRoom m ≡ true → StepTurn v q (workerGoesOn TakeUnlockEmpty (withSpacing (countedIn made (m .spacing)) (pushed (tailStore (next t)) m)))
     restores some-room =
         let room = ltb-true (m .buffer .count) (m .sizes .buffer) some-room in
         let seen = v .buffer .seen in
         let a = tailStore (idx (seen + 1)) in
         let sound =
-        rebuilt v (m .lock) (push a (m .buffer)) (m .spacing) TakeUnlockEmpty
+        rebuilt v (m .lock) (push a (m .buffer)) (countedIn made (m .spacing)) TakeUnlockEmpty
         (tail-raising v room (seen + 1) (omega arith) (omega arith))
         (record { holds-tail = tt; floor = omega arith; top = omega arith })
-        (v .spaced)
-        (omega (arith, v .counted))
+        (countedIn-asked made (m .spacing) (m .sizes .spacing) (v .buffer .owed) (v .spaced))
+        (countedIn-most made (m .spacing) n (v .counted))
         (v .lock)
         in
-        pushes v Moved [] a TakeUnlockEmpty
-        (ap (λ i. done Moved (afterWorker m (m .lock) (push (tailStore i) (m .buffer)) (m .spacing) TakeUnlockEmpty))
+        pushes v Moved [] a (countedIn made (m .spacing)) TakeUnlockEmpty
+        (ap (λ i. done Moved (afterWorker m (m .lock) (push (tailStore i) (m .buffer)) (countedIn made (m .spacing)) TakeUnlockEmpty))
         (sym (ap next (v .tail .holds-tail) ∙ idx-next seen)))
         refl
         sound

@@ -6,15 +6,15 @@ use Prim.Native.Nat.{ℕ, _+_, _-_}
 use native.Mathlib.Omega.{arith}
 use borrow.Author.Tests.{ltb-true}
 use Rattle.terms.proofs.Laws.Tests.{decide}
-use Rattle.stores.specs.Spacing.{counted, takeBegins, tooEarly}
+use Rattle.stores.specs.Spacing.{countedIn, takeBegins, tooEarly}
 use Rattle.stores.specs.StoreBuffer.{clientStore, push}
 use Rattle.stores.proofs.Laws.Chain.{client, no-store, none as no-link, past-client}
-use Rattle.stores.proofs.Laws.Spacing.{counted-asked, counted-most, not-early}
+use Rattle.stores.proofs.Laws.Spacing.{countedIn-asked, countedIn-most, not-early}
 use Rattle.stores.proofs.Laws.Pending.{pushing}
 use Rattle.claim.specs.PlainQueue.{PlainQueue}
 use Rattle.claim.specs.Calls.{none}
 use Rattle.claim.proofs.Turn.{moves}
-use Rattle.machine.specs.Types.{Done, Entry, ClientStore, BeginPut, BeginTake, Machine, Moved, Place, Early, Wait, ThiefCall, WorkerCall, PutLoadHead, PutStoreSlot, PutStoreTail, TakeStoreTail, TakeLoadHead, TakeLoadSlot, TakeLock, TakeReloadHead, TakeRestoreTail, TakeUnlockEmpty, TakeUnlockTask, TakeLoadLastSlot}
+use Rattle.machine.specs.Types.{Done, Entry, ClientStore, BeginPut, BeginTake, Push, One, TheClient, Client, Machine, Moved, Place, Early, Wait, ThiefCall, WorkerCall, PutLoadHead, PutStoreSlot, PutStoreTail, TakeStoreTail, TakeLoadHead, TakeLoadSlot, TakeLock, TakeReloadHead, TakeRestoreTail, TakeUnlockEmpty, TakeUnlockTask, TakeLoadLastSlot}
 use Rattle.machine.specs.Machine.{done, hasRoom, needing}
 use Rattle.machine.specs.Update.{pushed, withSpacing}
 use Rattle.machine.specs.Worker.{workerRuns}
@@ -22,7 +22,7 @@ use Rattle.machine.specs.Entries.{beginPut, beginTake, makeClientStore, 
 use Rattle.machine.specs.Perform.{stepOfWorker}
 use Rattle.machine.proofs.Linearizable.Invariant.{Environment, AgreesOn, Sound, stolen}
 use Rattle.machine.proofs.Linearizable.Turn.{StepTurn, WorkerTurn, afterWorker}
-use Rattle.machine.proofs.Linearizable.Rebuild.{agrees-call, pushed-shows, pushed-unwritten, rebuilt, recalled, recalls, refused, stayed}
+use Rattle.machine.proofs.Linearizable.Rebuild.{agrees-call, pushed-shows, pushed-unwritten, pushes, rebuilt, recalled, recalls, refused, stayed}
 use Rattle.machine.proofs.Linearizable.Put.{put-load-head, put-store-slot, put-store-tail}
 use Rattle.machine.proofs.Linearizable.Take.{take-load-head, take-load-last-slot, take-load-slot, take-lock, take-reload-head, take-restore-tail, take-store-tail, take-unlock-empty, take-unlock-task}
 
@@ -72,42 +72,37 @@ module _ {g : Environment} {n : ℕ} {m : Machine} {p : ThiefCall} (q : PlainQue
     unless-runs (TakeLoadLastSlot t) v at = runs (TakeLoadLastSlot t) v at refl
 
   module _ (v : Sound g n m WorkerCall.Idle p) (at : m .worker .call ≡ WorkerCall.Idle) where
-    stores : hasRoom m ≡ true → Quiet v ClientStore (done Moved (withSpacing (counted (m .spacing)) (pushed clientStore m)))
+    abbrev made : Push
+    made = One TheClient Client
+
+    stores : hasRoom m ≡ true → Quiet v ClientStore (done Moved (withSpacing (countedIn made (m .spacing)) (pushed clientStore m)))
     stores some-room =
         let room = ltb-true (m .buffer .count) (m .sizes .buffer) some-room in
         let sound =
-        rebuilt v (m .lock) (push clientStore (m .buffer)) (counted (m .spacing)) WorkerCall.Idle
+        rebuilt v (m .lock) (push clientStore (m .buffer)) (countedIn made (m .spacing)) WorkerCall.Idle
         (pushing (v .buffer) (v .sizes) room clientStore (v .buffer .bound) 0 (v .buffer .owed - 1) (v .buffer .seen) (omega arith) refl
         (λ c few. client (no-link (omega arith))))
         (v .tail)
-        (counted-asked (m .spacing) (m .sizes .spacing) (v .buffer .owed) (v .spaced))
-        (counted-most (m .spacing) n (v .counted))
+        (countedIn-asked made (m .spacing) (m .sizes .spacing) (v .buffer .owed) (v .spaced))
+        (countedIn-most made (m .spacing) n (v .counted))
         (v .lock)
         in
-        record {
-          outcome = Moved;
-          told = [];
-          lock = m .lock;
-          buffer = push clientStore (m .buffer);
-          spacing = counted (m .spacing);
-          call = WorkerCall.Idle;
-          is = ap (λ c. done Moved (afterWorker m (m .lock) (push clientStore (m .buffer)) (counted (m .spacing)) c)) (sym at);
-          told-is = refl;
-          holder = λ i. refl;
-          sound = sound;
-          turn = λ g.
-              moves {A = AgreesOn sound} refl refl
-              (record {
-                count = g .count;
-                sum = g .sum;
-                room = g .room;
-                below = g .below;
-                shows = pushed-shows v room clientStore (q .tasks) (v .head .lo + stolen p) (λ k h. refl) (g .shows);
-                unwritten = pushed-unwritten v room clientStore (v .buffer .bound) (omega arith) (λ has. past-client no-store) (g .unwritten);
-              });
-        }
+        pushes v Moved [] clientStore (countedIn made (m .spacing)) WorkerCall.Idle
+        (ap (λ c. done Moved (afterWorker m (m .lock) (push clientStore (m .buffer)) (countedIn made (m .spacing)) c)) (sym at))
+        refl
+        sound
+        (λ g.
+        moves {A = AgreesOn sound} refl refl
+        (record {
+          count = g .count;
+          sum = g .sum;
+          room = g .room;
+          below = g .below;
+          shows = pushed-shows v room clientStore (q .tasks) (v .head .lo + stolen p) (λ k h. refl) (g .shows);
+          unwritten = pushed-unwritten v room clientStore (v .buffer .bound) (omega arith) (λ has. past-client no-store) (g .unwritten);
+        }))
 
-    idle-store : Quiet v ClientStore (needing (hasRoom m) m (done Moved (withSpacing (counted (m .spacing)) (pushed clientStore m))))
+    idle-store : Quiet v ClientStore (needing (hasRoom m) m (done Moved (withSpacing (countedIn made (m .spacing)) (pushed clientStore m))))
     idle-store = decide (Quiet v ClientStore) (hasRoom m) stores (λ e. refused v Wait at refl refl)
 
     idle-put : (x : ℕ) → Quiet v (BeginPut x) (workerGoesOn (PutLoadHead x) m)
@@ -116,7 +111,7 @@ module _ {g : Environment} {n : ℕ} {m : Machine} {p : ThiefCall} (q : PlainQue
         (recalled v (m .lock) (PutLoadHead x) (record { holds-tail = tt; floor = v .tail .floor; top = v .tail .top }) (v .spaced) (v .lock))
         (λ g. moves refl refl (agrees-call refl (g .room) g))
 
-    -- the client stores are counted from here, and none is due before the take's own store
+    -- stores are counted from here, and none is due before the take's own store
     begins : tooEarly (m .spacing) (m .sizes .spacing) ≡ false → Quiet v BeginTake (workerGoesOn TakeStoreTail (withSpacing takeBegins m))
     begins late =
         record {

@@ -112,9 +112,9 @@ module _ {z : Sizes} {g : Memory} {t : Index} {b : StoreBuffer} (v : Pending z g
     storing-tail u dip owed most link =
         pushing (tailStore (idx u)) (v .bound) dip owed u (le-refl (v .bound)) (idx-in-range u ∙ le-leb u 2147483649 most) link
 
-    -- a raised tail is always a link
+    -- a raised tail is always a link, and one of the stores that are due
     abbrev pub raising : (u : ℕ) → v .seen < u → u ≤ 2147483649 → Pending z g t (push (tailStore (idx u)) b)
-    raising u higher most = storing-tail u 0 (v .owed) most (λ c few. up u higher (none (omega arith)))
+    raising u higher most = storing-tail u 0 (v .owed - 1) most (λ c few. up u higher (none (omega arith)))
 
   -- a tail one lower is one where no store is due before it
   pub lowering :

@@ -20,7 +20,7 @@ use Rattle.stores.specs.StoreBuffer.{clientStore, dropOldest, dropOldest
 -- the store that a step makes, if it makes one, has a cell in a buffer of n stores
 abbrev pub pushFits : Push → ℕ → Type 0
 pushFits Nothing n = Unit {0}
-pushFits (One k) n = n < 64
+pushFits (One w k) n = n < 64
 
 -- ── The pending list ────────────────────────────────────────────────────────────────────────────────────────────────────────
 
@@ -47,7 +47,7 @@ dropOldest-some b some fits = rw (le-ltb (b .count) 1 some, le-ltb 64 (b .count)
 
 pub pushed-free : (p : Push) (b : StoreBuffer) → pushFits p (b .count) → pushedOrSame p b ≡ pushedIn p b
 pushed-free Nothing b free = refl
-pushed-free (One k) b free = push-free (record { kind = k }) b free
+pushed-free (One w k) b free = push-free (record { kind = k }) b free
 
 -- ── What is found by going through it, from the oldest to the newest ────────────────────────────────────────────────────────
 

@@ -38,9 +38,9 @@ returns-4 c =
     let m = start .args .self in
     let ready = ready (c .before .before .before .before .before .before .before .before .before) in
     simp (
-      c .counted .ensures,
+      c .counted-in .ensures,
       counted-in-range (m .spacing) (bounds m ready .spacing),
-      c .before .before .push .ensures,
+      c .before .before .pushed .ensures,
       push-free clientStore (m .buffer) (room-below m ready (c .before .before .before .before .if3 .left)),
     )
     (sym (obeyed (c .before .before .before .before .before .before .before .before .before) ∙ by-test _ _ (known (c .before .before .before .before .before .before .before .before .worker-runs .ensures) (c .before .before .before .before .before .before .before .if2 .left)) ∙ by-test _ _ (lt-ltb _ _ (c .before .before .before .before .if3 .left))))

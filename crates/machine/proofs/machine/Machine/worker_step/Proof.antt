@@ -5,6 +5,7 @@ use borrow.Author.Needs.{needs}
 use borrow.Author.Tests.{ltb-true}
 use Rattle.terms.proofs.Laws.Tests.{known}
 use Rattle.machine.specs.Worker.{WorkerViewInRange, workerMove}
+use Rattle.stores.proofs.Laws.Spacing.{countedIn-in-range}
 use Rattle.stores.proofs.Laws.StoreBuffer.{pushed-free}
 use Rattle.machine.proofs.Laws.Worker.{push-fits}
 use Rattle.machine.specs.Types.{Machine, WorkerStep}
@@ -27,15 +28,22 @@ worker-move-requires c κs = simp (c .worker-view .ensures) (view-in-range (c .b
 
 returns : tie.Need-returns
 returns c =
-    let m = c .before .before .before .before .before .before .before .args .self in
-    let ready = known (c .before .before .before .before .before .before .in-range .ensures) (c .before .before .before .before .before .if1 .taken) in
+    let m = c .before .before .before .before .before .before .before .before .before .args .self in
+    let ready = known (c .before .before .before .before .before .before .before .before .in-range .ensures) (c .before .before .before .before .before .before .before .if1 .taken) in
     let v = workerView m (m .worker .call) in
     let fits = push-fits (m .buffer .count) v (λ room. room-below m ready (ltb-true (m .buffer .count) (m .sizes .buffer) room)) (m .worker .call) in
-    simp (c .pushed .ensures, c .before .before .before .worker-move .ensures, c .before .before .before .before .worker-view .ensures, pushed-free (workerMove (m .worker .call) v .push) (m .buffer) fits)
+    simp (
+      c .counted-in .ensures,
+      c .before .pushed .ensures,
+      c .before .before .before .before .before .worker-move .ensures,
+      c .before .before .before .before .before .before .worker-view .ensures,
+      countedIn-in-range (workerMove (m .worker .call) v .push) (m .spacing) (bounds m ready .spacing),
+      pushed-free (workerMove (m .worker .call) v .push) (m .buffer) fits,
+    )
     (sym (obey-by m WorkerStep (ap (λ t. t && true) ready)))
 
 returns-2 : tie.Need-returns-2
 returns-2 c = sym (obey-by (c .before .before .args .self) WorkerStep (ap (λ t. t && true) (known (c .before .in-range .ensures) (c .if1 .left))))
 
 pub worker-step-spec : {M : Type 1} → statement M
-worker-step-spec = tie.close (tie.spec (λ c κs. search needs) worker-view-requires worker-move-requires (λ c κs. search needs) returns returns-2)
+worker-step-spec = tie.close (tie.spec (λ c κs. search needs) worker-view-requires worker-move-requires (λ c κs. search needs) (λ c κs. search needs) returns returns-2)
