@@ -9,7 +9,7 @@ use Rattle.stores.specs.Types.{APut, ATake, Client, Index, Nobody, Nothi
 use Rattle.stores.specs.Index.{aboveBy, belowByMore, eqZ, indexInRange, nextOrSame, previousOrSame, slotIndexInRange, slotOf}
 use Rattle.stores.specs.Lock.{isNobody}
 use Rattle.stores.specs.StoreBuffer.{clientStore, dropOldestOrSame, pending, pushOrSame, slotAfter, storeInRange, tailStore}
-use Rattle.stores.specs.Spacing.{countedInOrSame, countedOrSame, noTake, spacingInRange, takeBegins, tooEarly}
+use Rattle.stores.specs.Spacing.{countedInOrSame, noTake, spacingInRange, takeBegins, tooEarly}
 
 abbrev pub index : ℤ → Index
 index z = record { at = z }
@@ -20,6 +20,10 @@ holding n = record { stores = replicate 64 clientStore; count = n }
 
 abbrev pub counting : ℕ → Bool → Spacing
 counting n b = record { count = n; begun = b }
+
+-- after one more client store
+abbrev pub clientStored : Spacing → Spacing
+clientStored s = countedInOrSame (One TheClient Client) s
 
 -- −1 to 2,147,483,648, a slot's from 0
 abbrev pub ranges : List Bool
@@ -86,18 +90,18 @@ buffers =
 -- stores count once a take has begun, and the first take is free; a put's count as the client's do, a take's do not
 abbrev pub spacings : List Bool
 spacings =
-    eqb (countedOrSame (counting 64 true) .count) 65
-    ∷ eqb (countedOrSame (counting 4095 true) .count) 4096
-    ∷ eqb (countedOrSame (counting 4096 true) .count) 4097
-    ∷ eqb (countedOrSame (counting 4097 true) .count) 4097
-    ∷ eqb (countedOrSame noTake .count) 0
-    ∷ eqb (countedOrSame (counting 5 false) .count) 0
+    eqb (clientStored (counting 64 true) .count) 65
+    ∷ eqb (clientStored (counting 4095 true) .count) 4096
+    ∷ eqb (clientStored (counting 4096 true) .count) 4097
+    ∷ eqb (clientStored (counting 4097 true) .count) 4097
+    ∷ eqb (clientStored noTake .count) 0
+    ∷ eqb (clientStored (counting 5 false) .count) 0
     ∷ not (tooEarly noTake 1)
     ∷ tooEarly takeBegins 1
-    ∷ not (tooEarly (countedOrSame takeBegins) 1)
-    ∷ tooEarly (countedOrSame takeBegins) 2
+    ∷ not (tooEarly (clientStored takeBegins) 1)
+    ∷ tooEarly (clientStored takeBegins) 2
     ∷ eqb (countedInOrSame Nothing (counting 1 true) .count) 1
-    ∷ eqb (countedInOrSame (One TheClient Client) (counting 1 true) .count) 2
+    ∷ eqb (clientStored (counting 1 true) .count) 2
     ∷ eqb (countedInOrSame (One APut (Slot 1 (index (pos 0)))) (counting 1 true) .count) 2
     ∷ eqb (countedInOrSame (One APut (Tail (index (pos 1)))) (counting 1 true) .count) 2
     ∷ eqb (countedInOrSame (One ATake (Tail (index (pos 1)))) (counting 1 true) .count) 1

@@ -23,19 +23,14 @@ counts ATake = false
 abbrev pub counted : Spacing → Spacing
 counted s = record { count = cond (s .begun) (s .count + 1) 0; begun = s .begun }
 
--- .. unless the count is out of range: then all stays as it is
-abbrev pub countedOrSame : Spacing → Spacing
-countedOrSame s = cond (ltb 4096 (s .count)) s (counted s)
-
--- the count after an entry, by the store that it has made pending; an entry that makes none leaves it, and so a put that answers FULL or END
+-- after an entry, by the store that it has made pending; an entry that makes none leaves all as it is, and so does a put that answers FULL or END
 abbrev pub countedIn : Push → Spacing → Spacing
 countedIn Nothing s = s
 countedIn (One maker kind) s = cond (counts maker) (counted s) s
 
--- .. where a count out of range stays as it is
+-- .. unless the count is out of range: then all stays as it is
 abbrev pub countedInOrSame : Push → Spacing → Spacing
-countedInOrSame Nothing s = s
-countedInOrSame (One maker kind) s = cond (counts maker) (countedOrSame s) s
+countedInOrSame p s = cond (ltb 4096 (s .count)) s (countedIn p s)
 
 -- a take has begun before, and fewer stores were counted since then than the spacing
 abbrev pub tooEarly : Spacing → ℕ → Bool

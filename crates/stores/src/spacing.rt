@@ -2,7 +2,7 @@ use crate::store_buffer::Maker;
 use crate::store_buffer::Push;
 ghost use mathlib.Core.Path.{_≡_};
 ghost use Prim.Native.Nat.{_≤_};
-ghost use Rattle.stores.specs.Spacing.{countedInOrSame, countedOrSame, counts, spacingInRange, takeBegins, tooEarly};
+ghost use Rattle.stores.specs.Spacing.{counted, countedInOrSame, counts, spacingInRange, takeBegins, tooEarly};
 
 // What the spacing rule goes by.
 pub struct Spacing {
@@ -33,18 +33,15 @@ impl Spacing {
         self.count <= 4096
     }
 
-    // After one more store that counts. A count out of range stays as it is.
+    // After one more store that counts.
     fn counted(self) -> Spacing
-        ensures { λ r. ⌜ r ≡ countedOrSame self ⌝ }
+        requires { ⌜ self .count ≤ 4096 ⌝ }
+        ensures { λ r. ⌜ r ≡ counted self ⌝ }
     {
-        let count = self.count;
         let begun = self.begun;
-        if 4096 < count {
-            return self;
-        }
         if begun {
             return Spacing {
-                count: count + 1,
+                count: self.count + 1,
                 begun: begun,
             };
         }
@@ -58,6 +55,9 @@ impl Spacing {
     pub fn counted_in(self, made: Push) -> Spacing
         ensures { λ r. ⌜ r ≡ countedInOrSame made self ⌝ }
     {
+        if 4096 < self.count {
+            return self;
+        }
         match made {
             Push::Nothing => return self,
             Push::One(maker, _) => {

@@ -23,7 +23,7 @@ use Rattle.claim.specs.Calls.{aPut}
 use Rattle.claim.proofs.Turn.{answers-at-once, moves}
 use Rattle.machine.specs.Types.{Push, One, APut, Slot, Tail, Machine, Moved, Wait, Stored, Full, End, ThiefCall, WorkerCall, PutLoadHead, PutStoreSlot, PutStoreTail}
 use Rattle.machine.specs.Machine.{done, hasRoom, workerLoad, workerTail}
-use Rattle.machine.specs.Update.{pushed, withSpacing, withWorker}
+use Rattle.machine.specs.Update.{pushed, withStore, withWorker}
 use Rattle.machine.specs.Worker.{atEnd, isFull}
 use Rattle.machine.specs.Perform.{workerView, stepOfWorker}
 use Rattle.machine.specs.Entries.{workerGoesOn}
@@ -89,7 +89,7 @@ module _ {g : Environment} {n : ℕ} {m : Machine} {p : ThiefCall} (q : PlainQue
     slot-made = One APut (Slot x (workerTail m))
 
     -- no task lies in the slot that is written, nor one that a thief is about to load
-    stores-slot : hasRoom m ≡ true → StepTurn v q (workerGoesOn PutStoreTail (withSpacing (countedIn slot-made (m .spacing)) (pushed (slotStore (workerTail m) x) m)))
+    stores-slot : hasRoom m ≡ true → StepTurn v q (workerGoesOn PutStoreTail (withStore slot-made m))
     stores-slot some-room =
         let room = ltb-true (m .buffer .count) (m .sizes .buffer) some-room in
         let cells = inside-cells (v .buffer) (v .sizes) room in
@@ -145,7 +145,7 @@ module _ {g : Environment} {n : ℕ} {m : Machine} {p : ThiefCall} (q : PlainQue
     tail-made = One APut (Tail (next (workerTail m)))
 
     -- the task in the slot of the tail joins those that stand
-    stores-tail : hasRoom m ≡ true → StepTurn v q (done Stored (withWorker WorkerCall.Idle (withSpacing (countedIn tail-made (m .spacing)) (pushed (tailStore (next (workerTail m))) m))))
+    stores-tail : hasRoom m ≡ true → StepTurn v q (done Stored (withWorker WorkerCall.Idle (withStore tail-made m)))
     stores-tail some-room =
         let room = ltb-true (m .buffer .count) (m .sizes .buffer) some-room in
         let cells = inside-cells (v .buffer) (v .sizes) room in

@@ -21,7 +21,7 @@ use Rattle.claim.specs.Calls.{aTake, onlyWhere, toldOf}
 use Rattle.claim.proofs.Turn.{ends, moves, takes-effect, toldIn}
 use Rattle.machine.specs.Types.{WorkerStep, Nobody, TheWorker, Index, Lock, Machine, Outcome, Moved, Wait, Task, Empty, Push, One, ATake, Tail, Store, ThiefCall, WorkerCall, TakeStoreTail, TakeLoadHead, TakeLoadSlot, TakeLock, TakeReloadHead, TakeRestoreTail, TakeUnlockEmpty, TakeUnlockTask, TakeLoadLastSlot}
 use Rattle.machine.specs.Machine.{done, hasRoom, lockIsFree, nothingPending, workerLoad, workerTail}
-use Rattle.machine.specs.Update.{pushed, withLock, withSpacing}
+use Rattle.machine.specs.Update.{withLock, withStore}
 use Rattle.machine.specs.Worker.{atOrAboveHead, headIsPast}
 use Rattle.machine.specs.Effect.{workerEffect}
 use Rattle.machine.specs.Linearizable.{workerOwes}
@@ -90,7 +90,7 @@ module _ {g : Environment} {n : ℕ} {m : Machine} {p : ThiefCall} (q : PlainQue
 
   module _ (v : Sound g n m TakeStoreTail p) (at : m .worker .call ≡ TakeStoreTail) where
     -- the store is a dip of the chain, since no store is due
-    lowers : hasRoom m ≡ true → StepTurn v q (workerGoesOn (TakeLoadHead (previous (workerTail m))) (pushed (tailStore (previous (workerTail m))) m))
+    lowers : hasRoom m ≡ true → StepTurn v q (workerGoesOn (TakeLoadHead (previous (workerTail m))) (withStore (One ATake (Tail (previous (workerTail m)))) m))
     lowers some-room =
         let room = ltb-true (m .buffer .count) (m .sizes .buffer) some-room in
         let seen = v .buffer .seen in
@@ -190,7 +190,7 @@ module _ {g : Environment} {n : ℕ} {m : Machine} {p : ThiefCall} (q : PlainQue
     abbrev made : Push
     made = One ATake (Tail (next t))
 
-    restores : hasRoom m ≡ true → StepTurn v q (workerGoesOn TakeUnlockEmpty (withSpacing (countedIn made (m .spacing)) (pushed (tailStore (next t)) m)))
+    restores : hasRoom m ≡ true → StepTurn v q (workerGoesOn TakeUnlockEmpty (withStore made m))
     restores some-room =
         let room = ltb-true (m .buffer .count) (m .sizes .buffer) some-room in
         let seen = v .buffer .seen in

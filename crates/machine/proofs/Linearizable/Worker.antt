@@ -16,7 +16,7 @@ use Rattle.claim.specs.Calls.{none}
 use Rattle.claim.proofs.Turn.{moves}
 use Rattle.machine.specs.Types.{Done, Entry, ClientStore, BeginPut, BeginTake, Push, One, TheClient, Client, Machine, Moved, Place, Early, Wait, ThiefCall, WorkerCall, PutLoadHead, PutStoreSlot, PutStoreTail, TakeStoreTail, TakeLoadHead, TakeLoadSlot, TakeLock, TakeReloadHead, TakeRestoreTail, TakeUnlockEmpty, TakeUnlockTask, TakeLoadLastSlot}
 use Rattle.machine.specs.Machine.{done, hasRoom, needing}
-use Rattle.machine.specs.Update.{pushed, withSpacing}
+use Rattle.machine.specs.Update.{withSpacing, withStore}
 use Rattle.machine.specs.Worker.{workerRuns}
 use Rattle.machine.specs.Entries.{beginPut, beginTake, makeClientStore, unlessWorkerRuns, workerGoesOn}
 use Rattle.machine.specs.Perform.{stepOfWorker}
@@ -75,7 +75,7 @@ module _ {g : Environment} {n : ℕ} {m : Machine} {p : ThiefCall} (q : PlainQue
     abbrev made : Push
     made = One TheClient Client
 
-    stores : hasRoom m ≡ true → Quiet v ClientStore (done Moved (withSpacing (countedIn made (m .spacing)) (pushed clientStore m)))
+    stores : hasRoom m ≡ true → Quiet v ClientStore (done Moved (withStore made m))
     stores some-room =
         let room = ltb-true (m .buffer .count) (m .sizes .buffer) some-room in
         let sound =
@@ -102,7 +102,7 @@ module _ {g : Environment} {n : ℕ} {m : Machine} {p : ThiefCall} (q : PlainQue
           unwritten = pushed-unwritten v room clientStore (v .buffer .bound) (omega arith) (λ has. past-client no-store) (g .unwritten);
         }))
 
-    idle-store : Quiet v ClientStore (needing (hasRoom m) m (done Moved (withSpacing (countedIn made (m .spacing)) (pushed clientStore m))))
+    idle-store : Quiet v ClientStore (needing (hasRoom m) m (done Moved (withStore made m)))
     idle-store = decide (Quiet v ClientStore) (hasRoom m) stores (λ e. refused v Wait at refl refl)
 
     idle-put : (x : ℕ) → Quiet v (BeginPut x) (workerGoesOn (PutLoadHead x) m)

@@ -1,19 +1,15 @@
 -- The spacing rule, by what it still asks for.
-use mathlib.Core.Path.{_≡_, refl, ap}
+use mathlib.Core.Path.{_≡_}
 use mathlib.Core.Bool.{Bool, true, false, cond}
 use Prim.Native.Nat.{ℕ, _+_, _-_, _≤_}
 use native.Mathlib.Omega.{arith}
 use borrow.Author.Tests.{le-ltb, ltb-false}
 use Rattle.terms.proofs.Laws.Tests.{by-test, either}
 use Rattle.stores.specs.Types.{Push, Nothing, One, Spacing}
-use Rattle.stores.specs.Spacing.{counted, countedIn, countedInOrSame, countedOrSame, counts, tooEarly}
-
-pub counted-in-range : (s : Spacing) → s .count ≤ 4096 → countedOrSame s ≡ counted s
-counted-in-range s most = by-test _ _ (le-ltb 4096 (s .count) most)
+use Rattle.stores.specs.Spacing.{countedIn, countedInOrSame, counts, tooEarly}
 
 pub countedIn-in-range : (p : Push) (s : Spacing) → s .count ≤ 4096 → countedInOrSame p s ≡ countedIn p s
-countedIn-in-range Nothing s most = refl
-countedIn-in-range (One w k) s most = ap (λ counted. cond (counts w) counted s) (counted-in-range s most)
+countedIn-in-range p s most = by-test _ _ (le-ltb 4096 (s .count) most)
 
 -- how many stores the spacing rule asks for before the next take
 abbrev pub asked : Spacing → ℕ → ℕ

@@ -4,10 +4,9 @@ use mathlib.Core.Bool.{true, _&&_}
 use borrow.Author.Needs.{needs}
 use borrow.Author.Tests.{le-ltb, lt-ltb}
 use Rattle.terms.proofs.Laws.Tests.{by-test, denied, granted, known}
-use Rattle.stores.specs.StoreBuffer.{clientStore}
-use Rattle.stores.proofs.Laws.Spacing.{counted-in-range}
-use Rattle.stores.proofs.Laws.StoreBuffer.{push-free}
-use Rattle.machine.specs.Types.{ClientStore}
+use Rattle.stores.proofs.Laws.Spacing.{countedIn-in-range}
+use Rattle.stores.proofs.Laws.StoreBuffer.{pushed-free}
+use Rattle.machine.specs.Types.{Client, ClientStore, One, TheClient}
 use Rattle.machine.specs.InRange.{inRange}
 use Rattle.machine.specs.Obey.{obey, obeyInRange}
 use Rattle.machine.proofs.Laws.InRange.{bounds, room-below}
@@ -37,11 +36,12 @@ returns-4 c =
     let start = c .before .before .before .before .before .before .before .before .before .before .before in
     let m = start .args .self in
     let ready = ready (c .before .before .before .before .before .before .before .before .before) in
+    let made = One TheClient Client in
     simp (
       c .counted-in .ensures,
-      counted-in-range (m .spacing) (bounds m ready .spacing),
+      countedIn-in-range made (m .spacing) (bounds m ready .spacing),
       c .before .before .pushed .ensures,
-      push-free clientStore (m .buffer) (room-below m ready (c .before .before .before .before .if3 .left)),
+      pushed-free made (m .buffer) (room-below m ready (c .before .before .before .before .if3 .left)),
     )
     (sym (obeyed (c .before .before .before .before .before .before .before .before .before) ∙ by-test _ _ (known (c .before .before .before .before .before .before .before .before .worker-runs .ensures) (c .before .before .before .before .before .before .before .if2 .left)) ∙ by-test _ _ (lt-ltb _ _ (c .before .before .before .before .if3 .left))))
 
