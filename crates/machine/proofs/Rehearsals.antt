@@ -3,7 +3,8 @@ use mathlib.Core.Path.{_≡_, refl}
 use mathlib.Core.Bool.{true}
 use Rattle.terms.specs.Lists.{all}
 use Rattle.machine.specs.InRange.{inRange}
-use Rattle.machine.specs.Rehearsals.{everyNumberShown, holds, rehearsals}
+use Rattle.machine.specs.Stories.{holds}
+use Rattle.machine.specs.Rehearsals.{everyNumberShown, rehearsals}
 
 pub rehearsals-hold : all holds rehearsals ≡ true
 unfolding inRange

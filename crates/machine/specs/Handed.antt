@@ -8,11 +8,12 @@ use lib.ListN.{replicate}
 use Rattle.terms.specs.Lists.{concatMap}
 use Rattle.terms.specs.Sizes.{sized}
 use Rattle.stores.specs.StoreBuffer.{clientStore, emptyBuffer, slotStore, tailStore}
-use Rattle.machine.specs.Types.{Entry, ClientStore, BeginTake, WorkerStep, BeginSteal, ThiefStep, Early, Empty, Index, Machine, Sizes, Spacing, Moved, Wait, Stored, Task, PutLoadHead, PutStoreSlot, PutStoreTail, StealRaiseHead, StealLoadTail, StealLoadSlot, StealRestoreHead, TakeStoreTail, TakeLoadHead, TakeLoadSlot, TakeLock, TakeReloadHead, TakeRestoreTail, TakeUnlockTask, TakeLoadLastSlot}
+use Rattle.machine.specs.Types.{Entry, ClientStore, BeginTake, WorkerStep, BeginSteal, ThiefStep, Early, Index, Machine, Sizes, Spacing, Moved, Wait, Stored, Task, PutLoadHead, PutStoreSlot, PutStoreTail, StealRaiseHead, StealLoadTail, StealLoadSlot, StealRestoreHead, TakeStoreTail, TakeLoadHead, TakeLoadSlot, TakeLock, TakeReloadHead, TakeRestoreTail, TakeUnlockTask, TakeLoadLastSlot}
 use Rattle.machine.specs.Machine.{done, fresh}
 use Rattle.machine.specs.Update.{pushed, withBuffer, withHead, withMemory, withSpacing, withThief, withWorker}
 use Rattle.machine.specs.Obey.{obey}
-use Rattle.machine.specs.Rehearsals.{Line, Row, margin, story, handed, brink, beyond, countIs, does, drains, headIs, m3Sizes, oneOfEach, thiefMoves, workerGets, workerMoves}
+use Rattle.machine.specs.Stories.{Row, margin, story, handed, brink, beyond, countIs, does, drains, emptySteps, headIs, oneOfEach, thiefMoves, workerGets, workerMoves}
+use Rattle.machine.specs.Rehearsals.{m3Sizes}
 
 -- with one thief
 abbrev pub absentThieves : List Entry
@@ -48,10 +49,6 @@ countSinceTake = record { count = 5; begun = true }
 -- sizes that ask for six stores between takes
 abbrev pub spacedSizes : Sizes
 spacedSizes = sized 4 2 6 1 1 0
-
--- the steps of a take that finds no task, from its first
-abbrev pub emptySteps : List Line
-emptySteps = workerMoves 2 ++ drains 1 ++ workerMoves 3 ++ drains 1 ++ workerGets Empty
 
 -- Steps on machines in range that no schedule reaches. An unlock waits for pending stores, a restoring store for a place in the list and for nothing else; steal 3 goes by its own h; END is the tail's greatest
 -- value and no other; the last load of a take sees pending stores; cells past the pending stores are not looked at. A count that a machine brings along, though it says that no take has begun, is no

@@ -15,6 +15,8 @@
 -- the plain queue, and the claim         of `claim`
 -- where a call takes effect              Effect
 -- demand 3                               Linearizable
+-- rows of tables                         Stories
+-- what keeps takes apart, in rows        SpacedTakes
 -- M1 to M9, and more                     Rehearsals
 -- machines handed in                     Handed
 pub mod Types
@@ -28,5 +30,7 @@ pub mod InRange
 pub mod Obey
 pub mod Effect
 pub mod Linearizable
+pub mod Stories
+pub mod SpacedTakes
 pub mod Rehearsals
 pub mod Handed

@@ -1,150 +1,18 @@
 -- The rehearsals of the paper, M1 to M9, as one table over the definitions, with rows for the example under "The program's lines", for
--- the lines of "Broken thread" that a run can show, for each limit of the plain queue, for each refusal in its order, and for the stores that count towards the spacing (request 1). Rows of machines that no
+-- the lines of "Broken thread" that a run can show, for each limit of the plain queue, for each refusal in its order, and, in `SpacedTakes`, for what keeps takes apart. Rows of machines that no
 -- run of a schedule reaches are in `Handed`.
 -- `proofs/Rehearsals.antt` proves one fact: every row holds.
-use mathlib.Core.Bool.{Bool, true, not, _&&_}
-use mathlib.Core.List.{List, [], _∷_, _++_, map}
+use mathlib.Core.Bool.{Bool}
+use mathlib.Core.List.{List, [], _∷_, _++_}
 use Prim.Native.Nat.{ℕ, _-_}
-use lib.Dec.{eqb, ltb}
-use lib.IntN.{ℤ, pos, negsuc}
-use lib.ListN.{getD, length, replicate}
-use Rattle.terms.specs.Sizes.{neededMargin, sized}
-use Rattle.terms.specs.Outcome.{numberOf, valueOf}
-use Rattle.terms.specs.Lists.{all, concatMap, equal, occurrences, rangeFrom}
-use Rattle.stores.specs.Index.{eqZ}
-use Rattle.claim.specs.PlainQueue.{emptyQueue}
-use Rattle.claim.specs.Calls.{Party, worker, thief, answersTo, noCall}
-use Rattle.claim.specs.Watch.{Watch, watchAfter, watchFresh}
-use Rattle.machine.specs.Types.{Entry, Drain, ClientStore, BeginPut, BeginTake, WorkerStep, BeginSteal, ThiefStep, Machine, Outcome, Moved, Place, Early, Wait, Stored, Task, Empty, Abort, Full, End, Sizes}
-use Rattle.machine.specs.Machine.{fresh}
-use Rattle.machine.specs.InRange.{inRange}
-use Rattle.machine.specs.Obey.{obey}
-use Rattle.machine.specs.Linearizable.{ffThe, owes, standingInSlots, standingNow}
-
--- ── Rows ────────────────────────────────────────────────────────────────────────────────────────────────────────────────────
-
--- A line of a story: an entry with its outcome, or a look at memory's head, at memory's tail, at what one of memory's slots holds, at
--- the spacing count, at how many tasks stand, at the numbers of those in the plain queue and in the slots, or at what a party's call owes and the plain
--- queue has answered to it.
-pub data Line : Type 0 where
-  does : Entry → Outcome → Line
-  headIs : ℤ → Line
-  tailIs : ℤ → Line
-  slotIs : ℕ → ℕ → Line
-  countIs : ℕ → Line
-  tasksStand : ℕ → Line
-  standing : List ℕ → Line
-  owed : Party → Outcome → Line
-
-pub data Row : Type 0 where
-  -- the needed margin of a buffer size and a spacing
-  margin : (buffer spacing needed : ℕ) → Row
-  -- a story that starts at the fresh machine
-  story : Sizes → List Line → Row
-  -- a story that starts at a machine in range, which may be one that no schedule reaches; the plain queue beside it tells nothing
-  handed : Machine → List Line → Row
-  -- a machine in range that the entry, with this outcome, leads out of range, so that every next operation answers 7
-  brink : Machine → Entry → Outcome → Row
-  -- a machine out of range: every operation answers 7 (and hands it back as it was: `HandedBack`, below)
-  beyond : Machine → Row
-
-abbrev pub sameOutcome : Outcome → Outcome → Bool
-sameOutcome o p = eqb (numberOf o) (numberOf p) && eqb (valueOf o) (valueOf p)
-
-abbrev pub sameOutcomes : List Outcome → List Outcome → Bool
-sameOutcomes l m = equal (map numberOf l) (map numberOf m) && equal (map valueOf l) (map valueOf m)
-
-abbrev pub oneOfEach : List Entry
-oneOfEach = Drain ∷ ClientStore ∷ BeginPut 1 ∷ BeginTake ∷ WorkerStep ∷ BeginSteal 0 ∷ ThiefStep 0 ∷ []
-
--- the machine is out of range, and so every operation on it answers 7
-abbrev pub allWait : Machine → Bool
-allWait m = not (inRange m) && all (λ e. sameOutcome (obey m e .outcome) Wait) oneOfEach
-
-abbrev pub comesTrue : Watch Machine → List Line → Bool
-comesTrue w [] = true
-comesTrue w (does e o ∷ l) = sameOutcome (obey (w .machine) e .outcome) o && comesTrue (watchAfter ffThe w e) l
-comesTrue w (headIs z ∷ l) = eqZ (w .machine .head .at) z && comesTrue w l
-comesTrue w (tailIs z ∷ l) = eqZ (w .machine .tail .at) z && comesTrue w l
-comesTrue w (slotIs k x ∷ l) = eqb (getD (w .machine .slots) k 0) x && comesTrue w l
-comesTrue w (countIs n ∷ l) = eqb (w .machine .spacing .count) n && comesTrue w l
-comesTrue w (tasksStand n ∷ l) = eqb (length (w .queue .tasks)) n && comesTrue w l
-comesTrue w (standing xs ∷ l) =
-    equal (map (λ t. t .number) (w .queue .tasks)) xs && equal (standingInSlots (w .machine)) xs && equal (standingNow (w .machine)) xs && comesTrue w l
-comesTrue w (owed p o ∷ l) = sameOutcomes (owes (w .machine) p) (o ∷ []) && sameOutcomes (answersTo (w .calls p)) (o ∷ []) && comesTrue w l
-
-abbrev pub holds : Row → Bool
-holds (margin b s n) = eqb (neededMargin b s) n
-holds (story s l) = comesTrue (watchFresh ffThe s) l
-holds (handed m l) = inRange m && comesTrue (record { machine = m; queue = emptyQueue 0; calls = λ p. noCall }) l
-holds (brink m e o) =
-    inRange m && sameOutcome (obey m e .outcome) o && allWait (obey m e .machine)
-holds (beyond m) = allWait m
-
--- the entries of a story
-abbrev pub entryIn : Line → List Entry
-entryIn (does e o) = e ∷ []
-entryIn (headIs z) = []
-entryIn (tailIs z) = []
-entryIn (slotIs k x) = []
-entryIn (countIs n) = []
-entryIn (tasksStand n) = []
-entryIn (standing xs) = []
-entryIn (owed p o) = []
-
-abbrev pub entriesIn : List Line → List Entry
-entriesIn l = concatMap entryIn l
-
--- the number of the outcome in a line
-abbrev pub numberIn : Line → List ℕ
-numberIn (does e o) = numberOf o ∷ []
-numberIn (headIs z) = []
-numberIn (tailIs z) = []
-numberIn (slotIs k x) = []
-numberIn (countIs n) = []
-numberIn (tasksStand n) = []
-numberIn (standing xs) = []
-numberIn (owed p o) = []
-
--- ── Words for stories ───────────────────────────────────────────────────────────────────────────────────────────────────────
-
-abbrev pub drains : ℕ → List Line
-drains n = replicate n (does Drain Moved)
-
-abbrev pub clientStores : ℕ → List Line
-clientStores n = replicate n (does ClientStore Moved)
-
-abbrev pub workerMoves : ℕ → List Line
-workerMoves n = replicate n (does WorkerStep Moved)
-
-abbrev pub workerGets : Outcome → List Line
-workerGets o = does WorkerStep o ∷ []
-
-abbrev pub thiefMoves : ℕ → List Line
-thiefMoves n = replicate n (does (ThiefStep 0) Moved)
-
-abbrev pub thiefGets : Outcome → List Line
-thiefGets o = does (ThiefStep 0) o ∷ []
-
--- a whole put that is STORED
-abbrev pub puts : ℕ → List Line
-puts x = does (BeginPut x) Moved ∷ workerMoves 2 ++ workerGets Stored
-
--- a whole put that ends at its first step
-abbrev pub putEnds : ℕ → Outcome → List Line
-putEnds x o = does (BeginPut x) Moved ∷ workerGets o
-
--- a whole take that needs no lock
-abbrev pub takes : ℕ → List Line
-takes x = does BeginTake Moved ∷ workerMoves 2 ++ workerGets (Task x)
-
--- a whole steal
-abbrev pub steals : Outcome → List Line
-steals o = does (BeginSteal 0) Moved ∷ thiefMoves 5 ++ thiefGets o
-
--- puts of 1 to n, each fully drained
-abbrev pub filled : ℕ → List Line
-filled n = concatMap (λ x. puts x ++ drains 2) (rangeFrom 1 n)
+use lib.Dec.{ltb}
+use lib.IntN.{pos, negsuc}
+use Rattle.terms.specs.Sizes.{sized}
+use Rattle.terms.specs.Lists.{all, concatMap, occurrences, rangeFrom}
+use Rattle.claim.specs.Calls.{worker, thief}
+use Rattle.machine.specs.Types.{Drain, ClientStore, BeginPut, BeginTake, WorkerStep, BeginSteal, ThiefStep, Outcome, Moved, Place, Early, Wait, Stored, Task, Empty, Abort, Full, End, Sizes}
+use Rattle.machine.specs.Stories.{Line, Row, margin, story, does, headIs, tailIs, slotIs, countIs, tasksStand, standing, owed, drains, clientStores, workerMoves, workerGets, thiefMoves, thiefGets, puts, putEnds, takes, steals, filled, numbersIn}
+use Rattle.machine.specs.SpacedTakes.{spacedTakes}
 
 -- ── The table ───────────────────────────────────────────────────────────────────────────────────────────────────────────────
 
@@ -277,10 +145,6 @@ stolenFromSlot0 = aroundTheSlots ++ steals (Task 3) ++ puts 6 ++ drains 2 ++ ste
 abbrev pub beyondBuffer : List Line
 beyondBuffer = filled 3 ++ steals (Task 1) ++ steals Abort
 
--- the second take is one store early, of two that are asked for
-abbrev pub twoStoresApart : List Line
-twoStoresApart = puts 1 ++ puts 2 ++ takes 2 ++ clientStores 1 ++ does BeginTake Early ∷ clientStores 1 ++ takes 1
-
 -- 7 WAIT for a place in the list: a client store, a put's two stores, and a take's first
 abbrev pub noRoom : List Line
 noRoom =
@@ -334,15 +198,6 @@ placeWithinWorkersCalls =
 abbrev pub placeWithinSteal : Outcome → List Line
 placeWithinSteal o = does (BeginSteal 0) Moved ∷ concatMap (λ k. does (BeginSteal 0) Place ∷ thiefMoves 1) (rangeFrom 1 5) ++ does (BeginSteal 0) Place ∷ thiefGets o
 
--- .. and a beginning that is out of place leaves the spacing count
-abbrev pub placeKeepsCount : List Line
-placeKeepsCount = puts 1 ++ takes 1 ++ clientStores 1 ++ does (BeginPut 2) Moved ∷ does BeginTake Place ∷ countIs 1 ∷ []
-
--- a client store that waits is not counted
-abbrev pub waitCountsNothing : List Line
-waitCountsNothing =
-    countIs 0 ∷ filled 2 ++ clientStores 1 ++ takes 2 ++ does ClientStore Wait ∷ countIs 0 ∷ drains 1 ++ does BeginTake Early ∷ []
-
 -- a lock that is held stays held: a thief's, while the other waits and the worker looks on; the worker's, while a thief waits
 abbrev pub lockOfAThief : List Line
 lockOfAThief =
@@ -363,86 +218,6 @@ newestOfASlot = puts 1 ++ takes 1 ++ puts 2 ++ takes 2
 -- the tail's greatest value at FULL's distance: END comes first
 abbrev pub endBeforeFull : List Line
 endBeforeFull = puts 1 ++ tasksStand 1 ∷ putEnds 2 End
-
--- a whole take that finds no task, drained where needed
-abbrev pub takesNothing : List Line
-takesNothing = does BeginTake Moved ∷ workerMoves 2 ++ drains 1 ++ workerMoves 3 ++ drains 1 ++ workerGets Empty
-
--- a put between two takes keeps them apart by its two stores: by as much as a spacing of 1 or 2 asks for, and not one of 3
-abbrev pub putBetweenTakes : Outcome → List Line
-putBetweenTakes o = puts 1 ++ takes 1 ++ does BeginTake Early ∷ puts 2 ++ countIs 2 ∷ does BeginTake o ∷ []
-
--- .. together with client stores
-abbrev pub putAndClientStore : List Line
-putAndClientStore = putBetweenTakes Early ++ clientStores 1 ++ countIs 3 ∷ takes 2
-
--- .. each as soon as it is pending, and not while it waits for a place
-abbrev pub countsOncePending : List Line
-countsOncePending =
-    filled 1 ++ takes 1 ++ clientStores 1 ++ does (BeginPut 2) Moved ∷ workerMoves 1 ++ countIs 1 ∷ workerGets Wait
-    ++ countIs 1 ∷ drains 1 ++ workerMoves 1 ++ countIs 2 ∷ workerGets Wait ++ countIs 2 ∷ drains 1 ++ workerGets Stored ++ countIs 3 ∷ []
-
--- .. two puts by four, also once they have drained, and so between every two takes
-abbrev pub twoPutsBetweenTakes : List Line
-twoPutsBetweenTakes =
-    puts 1 ++ takes 1 ++ puts 2 ++ drains 5 ++ countIs 2 ∷ puts 3 ++ drains 2 ++ countIs 4 ∷ takes 3
-    ++ puts 4 ++ countIs 2 ∷ does BeginTake Early ∷ []
-
--- .. also by stores of what memory has already: task 0, where task 0 was
-abbrev pub sameValueCounts : List Line
-sameValueCounts = puts 0 ++ drains 2 ++ takes 0 ++ puts 0 ++ countIs 2 ∷ does BeginTake Moved ∷ []
-
--- .. whatever a thief does meanwhile, which waives nothing either
-abbrev pub countsBesideThief : List Line
-countsBesideThief =
-    filled 1 ++ takes 1 ++ does (BeginSteal 0) Moved ∷ thiefMoves 1 ++ does BeginTake Early ∷ puts 2 ++ countIs 2 ∷ clientStores 1 ++ countIs 3 ∷ []
-
--- .. and no task is lost or given twice, with the margin that is needed for the spacing
-abbrev pub putBetweenTakesThenSteal : List Line
-putBetweenTakesThenSteal = filled 3 ++ takes 3 ++ puts 4 ++ takes 4 ++ steals (Task 1) ++ standing (2 ∷ []) ∷ []
-
--- before the first take no store counts and nothing makes it wait: no put, no steal
-abbrev pub putsBeforeFirstTake : List Line
-putsBeforeFirstTake =
-    does (BeginPut 1) Moved ∷ workerMoves 2 ++ countIs 0 ∷ workerGets Stored ++ countIs 0 ∷ takes 1 ++ countIs 0 ∷ does BeginTake Early ∷ []
-
-abbrev pub stealBeforeFirstTake : List Line
-stealBeforeFirstTake = filled 2 ++ steals (Task 1) ++ takes 2
-
--- a put that stores nothing counts nothing. FULL comes right after a take here: a thief raised head while 2 was put, and has put it back, so that before the take as many tasks stood as there are
--- slots.
-abbrev pub fullCountsNothing : List Line
-fullCountsNothing =
-    filled 1 ++ does (BeginSteal 0) Moved ∷ thiefMoves 3 ++ puts 2 ++ thiefMoves 2 ++ thiefGets Abort
-    ++ tasksStand 2 ∷ takes 2 ++ putEnds 3 Full ++ countIs 0 ∷ does BeginTake Early ∷ []
-
-abbrev pub endCountsNothing : List Line
-endCountsNothing = takesNothing ++ putEnds 3 End ++ countIs 0 ∷ does BeginTake Early ∷ []
-
--- .. and leaves the count, and the first take, as they are
-abbrev pub fullLeavesTheCount : List Line
-fullLeavesTheCount = puts 1 ++ putEnds 2 Full ++ takes 1 ++ clientStores 1 ++ puts 2 ++ putEnds 3 Full ++ countIs 3 ∷ does BeginTake Moved ∷ []
-
-abbrev pub endLeavesTheCount : List Line
-endLeavesTheCount = puts 1 ++ putEnds 2 End ++ takes 1 ++ puts 2 ++ putEnds 3 End ++ countIs 2 ∷ does BeginTake Moved ∷ []
-
--- an EMPTY take is a take, from which stores are counted anew; and the tail that it puts back is no put's
-abbrev pub emptyWaivesNothing : List Line
-emptyWaivesNothing = takesNothing ++ countIs 0 ∷ does BeginTake Early ∷ clientStores 1 ++ drains 1 ++ takesNothing ++ countIs 0 ∷ does BeginTake Early ∷ []
-
--- the count stays through steals and drains and begins anew as a take begins, whose own store does not count
-abbrev pub countStays : List Line
-countStays =
-    filled 3 ++ takes 3 ++ clientStores 1 ++ countIs 1 ∷ steals (Task 1) ++ steals Abort ++ countIs 1 ∷ drains 2
-    ++ countIs 1 ∷ puts 4 ++ countIs 3 ∷ does BeginTake Moved ∷ countIs 0 ∷ workerMoves 1 ++ countIs 0 ∷ []
-
--- .. also where no spacing is asked for
-abbrev pub countsWithoutSpacing : List Line
-countsWithoutSpacing = takesNothing ++ clientStores 1 ++ countIs 1 ∷ does BeginTake Moved ∷ countIs 0 ∷ []
-
--- a spacing above the buffer size is asked for in full
-abbrev pub spacingAboveBuffer : List Line
-spacingAboveBuffer = takesNothing ++ clientStores 1 ++ drains 1 ++ does BeginTake Early ∷ clientStores 1 ++ does BeginTake Moved ∷ []
 
 -- two tasks stand, before and after their stores have drained
 abbrev pub twoStand : List Line
@@ -487,7 +262,6 @@ stories =
     ∷ story (sized 4 2 1 1 1 0) stolenFromSlot0
     ∷ story (sized 4 2 0 0 1 0) m3
     ∷ story (sized 4 2 1 0 1 0) beyondBuffer
-    ∷ story (sized 4 8 2 3 1 0) twoStoresApart
     ∷ story (sized 4 1 0 1 1 0) noRoom
     ∷ story (sized 4 1 0 1 1 0) placeBeforeWait
     ∷ story (sized 4 1 1 1 1 0) placeBeforeEarly
@@ -495,31 +269,11 @@ stories =
     ∷ story (sized 4 2 0 2 1 0) placeWithinPut
     ∷ story (sized 4 2 1 1 1 0) (filled 2 ++ placeWithinSteal (Task 1))
     ∷ story (sized 4 2 1 1 1 0) (filled 1 ++ placeWithinSteal Abort)
-    ∷ story (sized 4 4 1 2 1 0) placeKeepsCount
-    ∷ story (sized 4 2 1 1 1 0) waitCountsNothing
     ∷ story (sized 2 3 0 3 2 0) lockOfAThief
     ∷ story (sized 4 2 0 2 1 0) lockOfTheWorker
     ∷ story (sized 4 8 0 7 1 3) fromAnotherStart
     ∷ story (sized 4 8 0 8 1 0) newestOfASlot
     ∷ story (sized 2 2 0 2 1 2147483646) endBeforeFull
-    ∷ story (sized 4 8 1 4 1 0) (putBetweenTakes Moved)
-    ∷ story (sized 4 8 2 3 1 0) (putBetweenTakes Moved)
-    ∷ story (sized 4 8 3 2 1 0) putAndClientStore
-    ∷ story (sized 4 2 1 1 1 0) countsOncePending
-    ∷ story (sized 4 8 4 2 1 0) twoPutsBetweenTakes
-    ∷ story (sized 4 8 2 3 1 0) sameValueCounts
-    ∷ story (sized 4 8 1 4 1 0) countsBesideThief
-    ∷ story (sized 8 4 2 2 1 0) putBetweenTakesThenSteal
-    ∷ story (sized 4 8 1 4 1 0) putsBeforeFirstTake
-    ∷ story (sized 4 2 1 1 1 0) stealBeforeFirstTake
-    ∷ story (sized 2 4 1 2 1 0) fullCountsNothing
-    ∷ story (sized 4 2 1 1 1 2147483647) endCountsNothing
-    ∷ story (sized 2 8 1 4 1 0) fullLeavesTheCount
-    ∷ story (sized 4 8 1 4 1 2147483646) endLeavesTheCount
-    ∷ story (sized 4 2 1 1 1 0) emptyWaivesNothing
-    ∷ story (sized 4 4 1 2 1 0) countStays
-    ∷ story (sized 4 2 0 2 1 0) countsWithoutSpacing
-    ∷ story (sized 4 1 2 1 1 0) spacingAboveBuffer
     ∷ story (sized 4 2 1 1 1 0) m9Place
     ∷ story (sized 4 2 0 2 1 0) placeWithinWorkersCalls
     ∷ story (sized 4 4 0 4 1 0) twoStand
@@ -528,17 +282,9 @@ stories =
     ∷ []
 
 abbrev pub rehearsals : List Row
-rehearsals = m1 ++ stories
+rehearsals = m1 ++ stories ++ spacedTakes
 
 -- ── Every number ────────────────────────────────────────────────────────────────────────────────────────────────────────────
-
--- the numbers of the outcomes that a row shows
-abbrev pub numbersIn : Row → List ℕ
-numbersIn (margin b s n) = []
-numbersIn (story s l) = concatMap numberIn l
-numbersIn (handed m l) = concatMap numberIn l
-numbersIn (brink m e o) = numberOf o ∷ []
-numbersIn (beyond m) = []
 
 -- each number that an outcome can have is in the table
 abbrev pub everyNumberShown : Bool
