@@ -28,7 +28,7 @@ use Rattle.properties.specs.CallLength.{CallsEndInPlace, put, take, stea
 
 -- ── The steps that a call has made, by the one that is next ─────────────────────────────────────────────────────────────────
 
-abbrev workerMade : WorkerCall → Progress
+abbrev pub workerMade : WorkerCall → Progress
 workerMade WorkerCall.Idle = noCall
 workerMade (PutLoadHead x) = record { kind = put; steps = 0 }
 workerMade (PutStoreSlot x) = record { kind = put; steps = 1 }
@@ -192,7 +192,7 @@ kept-thief m m′ e o i c whose there same is counts =
     call (thief j) other = ap (λ l. thiefMade (getD l j idleThief .call)) is ∙ ap (λ a. thiefMade (a .call)) (getD-set-other (m .thieves) i j (record { call = c }) idleThief (eqb-false j i other))
 
 -- no call runs where the test says so
-worker-idle : (c : WorkerCall) → workerRuns c ≡ false → noneRuns (workerMade c .kind) ≡ true
+pub worker-idle : (c : WorkerCall) → workerRuns c ≡ false → noneRuns (workerMade c .kind) ≡ true
 worker-idle WorkerCall.Idle e = refl
 worker-idle (PutLoadHead x) e = absurd (false≢true (sym e))
 worker-idle (PutStoreSlot x) e = absurd (false≢true (sym e))

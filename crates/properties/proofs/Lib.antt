@@ -2,3 +2,4 @@ pub mod Renumbering
 pub mod ExactlyOnce
 pub mod Accounts
 pub mod CallLength
+pub mod TakesApart

@@ -3,8 +3,10 @@
 -- no step depends on a task's number    Renumbering
 -- no task is lost or given twice        ExactlyOnce, Accounts
 -- how many steps a call has              CallLength
+-- when a take is too early               TakesApart
 pub mod Types
 pub mod Renumbering
 pub mod ExactlyOnce
 pub mod Accounts
 pub mod CallLength
+pub mod TakesApart
