@@ -1,4 +1,4 @@
--- Machines handed in, as one table over the definitions, with the rows of `Rehearsals`: machines in range that no schedule reaches, steps that lead out of range, and machines out of range. Renders, of "Parts", what an
+-- Machines handed in, as one table over the definitions, in rows as `Stories` has them: machines in range that no schedule reaches, steps that lead out of range, and machines out of range. Renders, of "Parts", what an
 -- operation does that is handed a machine; and of "The numbers", that 7 leaves the machine unchanged. `proofs/Handed.antt` proves that every row holds, and `HandedBack`.
 use mathlib.Core.Path.{_≡_}
 use mathlib.Core.Bool.{true, false}
@@ -61,6 +61,7 @@ handedRows =
     ∷ handed (withHead greatest (withTail (pos 2147483648) (withWorker (PutLoadHead 1) (fresh m3Sizes)))) (workerMoves 1)
     ∷ handed (pushed (slotStore zeroth 9) (withWorker (TakeLoadLastSlot zeroth) (fresh m3Sizes))) (workerGets (Task 9))
     ∷ handed (withBuffer (record { stores = replicate 64 (slotStore minusOne 1); count = 0 }) (fresh m3Sizes)) (does BeginTake Moved ∷ [])
+    ∷ handed (withSpacing countBeforeTake (fresh m3Sizes)) (does ClientStore Moved ∷ countIs 0 ∷ [])
     ∷ handed (withSpacing countBeforeTake (withWorker (PutLoadHead 1) (fresh m3Sizes))) (workerMoves 1 ++ countIs 5 ∷ workerMoves 1 ++ countIs 0 ∷ [])
     ∷ handed (withSpacing countBeforeTake (withWorker PutStoreTail (fresh m3Sizes))) (workerGets Stored ++ countIs 0 ∷ [])
     ∷ handed (withSpacing countBeforeTake (fresh spacedSizes)) (does BeginTake Moved ∷ countIs 0 ∷ [])

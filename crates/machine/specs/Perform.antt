@@ -1,14 +1,12 @@
 -- A step on the machine: what a party sees of it, and what the step does to it. The steps themselves are in `Worker` and `Thief`; what the
--- parties load is in `Machine`. Renders, of the spacing rule, that a store counts as soon as it is pending.
+-- parties load is in `Machine`.
 use Prim.Native.Nat.{ℕ}
-use lib.ListN.{set}
 use Rattle.terms.specs.Sizes.{marginInUse}
-use Rattle.stores.specs.Spacing.{countedIn}
-use Rattle.stores.specs.StoreBuffer.{pushedIn}
 use Rattle.machine.specs.Types.{Done, Machine, ThiefCall, ThiefMove, ThiefView, WorkerCall, WorkerMove, WorkerView}
 use Rattle.machine.specs.Worker.{loads, workerMove}
 use Rattle.machine.specs.Thief.{loads as thiefLoads, thiefMove}
-use Rattle.machine.specs.Machine.{hasRoom, memoryLoads, nothingPending, thiefTail, workerLoads, workerTail}
+use Rattle.machine.specs.Update.{withHead, withLock, withStore, withThief, withWorker}
+use Rattle.machine.specs.Machine.{done, hasRoom, memoryLoads, nothingPending, thiefTail, workerLoads, workerTail}
 
 -- ── The worker ──────────────────────────────────────────────────────────────────────────────────────────────────────────────
 
@@ -26,24 +24,9 @@ workerView m c =
       loaded = workerLoads m (loads c);
     }
 
--- what its move does: the store is pending and, by the spacing rule, counted; lock and call are as the move says
+-- what its move does: the store that it makes is pending; lock and call are as the move says
 abbrev pub performWorker : Machine → WorkerMove → Done
-performWorker m d =
-    record {
-      machine =
-          record {
-            sizes = m .sizes;
-            slots = m .slots;
-            head = m .head;
-            tail = m .tail;
-            lock = d .lock;
-            buffer = pushedIn (d .push) (m .buffer);
-            spacing = countedIn (d .push) (m .spacing);
-            worker = record { call = d .call };
-            thieves = m .thieves;
-          };
-      outcome = d .outcome;
-    }
+performWorker m d = done (d .outcome) (withWorker (d .call) (withLock (d .lock .holder) (withStore (d .push) m)))
 
 -- the next step of its call
 abbrev pub stepOfWorker : Machine → WorkerCall → Done
@@ -70,22 +53,7 @@ thiefView m i c = viewKeeping (marginInUse (m .sizes)) m i c
 
 -- what the move of thief i does: head, lock and call are as the move says
 abbrev pub performThief : ℕ → Machine → ThiefMove → Done
-performThief i m d =
-    record {
-      machine =
-          record {
-            sizes = m .sizes;
-            slots = m .slots;
-            head = d .head;
-            tail = m .tail;
-            lock = d .lock;
-            buffer = m .buffer;
-            spacing = m .spacing;
-            worker = m .worker;
-            thieves = set (m .thieves) i (record { call = d .call });
-          };
-      outcome = d .outcome;
-    }
+performThief i m d = done (d .outcome) (withThief i (d .call) (withLock (d .lock .holder) (withHead (d .head) m)))
 
 -- the next step of the call of thief i, with the margin that it keeps ..
 abbrev pub stepKeeping : ℕ → ℕ → Machine → ThiefCall → Done

@@ -64,7 +64,7 @@ m7 = putEnds 1 End
 abbrev pub m7Before : List Line
 m7Before = puts 1 ++ putEnds 2 End
 
--- M8: the next take must wait for a store, here a client's. One made before the first take does not count.
+-- M8: the next take is EARLY until a store is made, here a client's. One made before the first take does not count.
 abbrev pub m8 : List Line
 m8 =
     clientStores 1 ++ countIs 0 ∷ puts 1 ++ drains 3 ++ takes 1 ++ does BeginTake Early ∷ clientStores 1

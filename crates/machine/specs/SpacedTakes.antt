@@ -4,7 +4,7 @@ use Rattle.terms.specs.Sizes.{sized}
 use Rattle.machine.specs.Types.{ClientStore, BeginPut, BeginTake, BeginSteal, Outcome, Moved, Place, Early, Wait, Stored, Task, Abort, Full, End}
 use Rattle.machine.specs.Stories.{Line, Row, story, does, countIs, tasksStand, standing, drains, clientStores, workerMoves, workerGets, thiefMoves, thiefGets, puts, putEnds, takes, takesNothing, steals, filled}
 
--- a put between two takes keeps them apart by its two stores: by as much as a spacing of 1 or 2 asks for, and not one of 3
+-- a put between two takes keeps them apart by its two stores: by as much as a spacing of 1 or 2 asks for, and not one of 3; the rule asks for as much whichever margin is set
 abbrev pub putBetweenTakes : Outcome → List Line
 putBetweenTakes o = puts 1 ++ takes 1 ++ does BeginTake Early ∷ puts 2 ++ countIs 2 ∷ does BeginTake o ∷ []
 
@@ -18,7 +18,11 @@ countsOncePending =
     filled 1 ++ takes 1 ++ clientStores 1 ++ does (BeginPut 2) Moved ∷ workerMoves 1 ++ countIs 1 ∷ workerGets Wait
     ++ countIs 1 ∷ drains 1 ++ workerMoves 1 ++ countIs 2 ∷ workerGets Wait ++ countIs 2 ∷ drains 1 ++ workerGets Stored ++ countIs 3 ∷ []
 
--- .. two puts by four, also once they have drained, and so between every two takes
+-- .. two puts by four
+abbrev pub twoFreshTasks : List Line
+twoFreshTasks = puts 1 ++ takes 1 ++ puts 2 ++ countIs 2 ∷ puts 3 ++ countIs 4 ∷ takes 3
+
+-- .. also once they have drained, and so between every two takes
 abbrev pub twoPutsBetweenTakes : List Line
 twoPutsBetweenTakes =
     puts 1 ++ takes 1 ++ puts 2 ++ drains 5 ++ countIs 2 ∷ puts 3 ++ drains 2 ++ countIs 4 ∷ takes 3
@@ -28,7 +32,7 @@ twoPutsBetweenTakes =
 abbrev pub sameValueCounts : List Line
 sameValueCounts = puts 0 ++ drains 2 ++ takes 0 ++ puts 0 ++ countIs 2 ∷ does BeginTake Moved ∷ []
 
--- .. whatever a thief does meanwhile, which waives nothing either
+-- .. also while a thief holds the lock, which waives nothing either
 abbrev pub countsBesideThief : List Line
 countsBesideThief =
     filled 1 ++ takes 1 ++ does (BeginSteal 0) Moved ∷ thiefMoves 1 ++ does BeginTake Early ∷ puts 2 ++ countIs 2 ∷ clientStores 1 ++ countIs 3 ∷ []
@@ -84,21 +88,31 @@ spacingAboveBuffer = takesNothing ++ clientStores 1 ++ drains 1 ++ does BeginTak
 abbrev pub twoStoresApart : List Line
 twoStoresApart = puts 1 ++ puts 2 ++ takes 2 ++ clientStores 1 ++ does BeginTake Early ∷ clientStores 1 ++ takes 1
 
--- a beginning that is out of place leaves the count
+-- the largest spacing
+abbrev pub sixtyThreeApart : List Line
+sixtyThreeApart = takesNothing ++ clientStores 62 ++ countIs 62 ∷ does BeginTake Early ∷ clientStores 1 ++ countIs 63 ∷ does BeginTake Moved ∷ []
+
+-- 5 comes before 6, within a put too; and a beginning that is out of place leaves the count
+abbrev pub placeBeforeEarlyInPut : List Line
+placeBeforeEarlyInPut = takesNothing ++ does (BeginPut 1) Moved ∷ does BeginTake Place ∷ []
+
 abbrev pub placeKeepsCount : List Line
 placeKeepsCount = puts 1 ++ takes 1 ++ clientStores 1 ++ does (BeginPut 2) Moved ∷ does BeginTake Place ∷ countIs 1 ∷ []
 
--- a client store that waits is not counted
+-- a client store that waits is not counted; and 6 comes where the list has no place, too
 abbrev pub waitCountsNothing : List Line
 waitCountsNothing =
-    countIs 0 ∷ filled 2 ++ clientStores 1 ++ takes 2 ++ does ClientStore Wait ∷ countIs 0 ∷ drains 1 ++ does BeginTake Early ∷ []
+    countIs 0 ∷ filled 2 ++ clientStores 1 ++ takes 2 ++ does ClientStore Wait ∷ countIs 0 ∷ does BeginTake Early ∷ drains 1 ++ does BeginTake Early ∷ []
 
 abbrev pub spacedTakes : List Row
 spacedTakes =
     story (sized 4 8 1 4 1 0) (putBetweenTakes Moved)
+    ∷ story (sized 4 8 1 0 1 0) (putBetweenTakes Moved)
+    ∷ story (sized 4 8 1 1 1 0) (putBetweenTakes Moved)
     ∷ story (sized 4 8 2 3 1 0) (putBetweenTakes Moved)
     ∷ story (sized 4 8 3 2 1 0) putAndClientStore
     ∷ story (sized 4 2 1 1 1 0) countsOncePending
+    ∷ story (sized 4 8 4 2 1 0) twoFreshTasks
     ∷ story (sized 4 8 4 2 1 0) twoPutsBetweenTakes
     ∷ story (sized 4 8 2 3 1 0) sameValueCounts
     ∷ story (sized 4 8 1 4 1 0) countsBesideThief
@@ -114,6 +128,8 @@ spacedTakes =
     ∷ story (sized 4 2 0 2 1 0) countsWithoutSpacing
     ∷ story (sized 4 1 2 1 1 0) spacingAboveBuffer
     ∷ story (sized 4 8 2 3 1 0) twoStoresApart
+    ∷ story (sized 4 64 63 1 1 0) sixtyThreeApart
+    ∷ story (sized 4 2 1 1 1 0) placeBeforeEarlyInPut
     ∷ story (sized 4 4 1 2 1 0) placeKeepsCount
     ∷ story (sized 4 2 1 1 1 0) waitCountsNothing
     ∷ []

@@ -8,7 +8,7 @@ use lib.ListN.{length, replicate}
 use Rattle.stores.specs.Types.{APut, ATake, Client, Index, Nobody, Nothing, One, Slot, Spacing, Tail, TheClient, Store, StoreBuffer, TheThief, TheWorker}
 use Rattle.stores.specs.Index.{aboveBy, belowByMore, eqZ, indexInRange, nextOrSame, previousOrSame, slotIndexInRange, slotOf}
 use Rattle.stores.specs.Lock.{isNobody}
-use Rattle.stores.specs.StoreBuffer.{clientStore, dropOldestOrSame, pending, pushOrSame, slotAfter, storeInRange, tailStore}
+use Rattle.stores.specs.StoreBuffer.{clientStore, dropOldestOrSame, newestTail, pending, pushOrSame, pushedOrSame, slotAfter, storeInRange, tailStore}
 use Rattle.stores.specs.Spacing.{countedInOrSame, noTake, spacingInRange, takeBegins, tooEarly}
 
 abbrev pub index : ℤ → Index
@@ -17,6 +17,10 @@ index z = record { at = z }
 -- a buffer that says it has so many pending
 abbrev pub holding : ℕ → StoreBuffer
 holding n = record { stores = replicate 64 clientStore; count = n }
+
+-- .. after a tail store of 1
+abbrev pub tailMade : ℕ → StoreBuffer
+tailMade n = pushedOrSame (One APut (Tail (index (pos 1)))) (holding n)
 
 abbrev pub counting : ℕ → Bool → Spacing
 counting n b = record { count = n; begun = b }
@@ -79,6 +83,11 @@ abbrev pub buffers : List Bool
 buffers =
     eqb (pushOrSame (tailStore (index (pos 1))) (holding 63) .count) 64
     ∷ eqb (pushOrSame (tailStore (index (pos 1))) (holding 64) .count) 64
+    ∷ eqZ (newestTail (index (pos 9)) (tailMade 63) .at) (pos 1)
+    ∷ eqZ (newestTail (index (pos 9)) (tailMade 64) .at) (pos 9)
+    ∷ eqZ (newestTail (index (pos 9)) (dropOldestOrSame (tailMade 1)) .at) (pos 1)
+    ∷ eqZ (newestTail (index (pos 9)) (dropOldestOrSame (tailMade 0)) .at) (pos 9)
+    ∷ eqb (pushedOrSame Nothing (holding 3) .count) 3
     ∷ eqb (dropOldestOrSame (holding 0) .count) 0
     ∷ eqb (length (dropOldestOrSame (holding 0) .stores)) 64
     ∷ eqb (dropOldestOrSame (holding 1) .count) 0
@@ -90,7 +99,8 @@ buffers =
 -- stores count once a take has begun, and the first take is free; a put's count as the client's do, a take's do not
 abbrev pub spacings : List Bool
 spacings =
-    eqb (clientStored (counting 64 true) .count) 65
+    eqb (clientStored (counting 63 true) .count) 64
+    ∷ eqb (clientStored (counting 255 true) .count) 256
     ∷ eqb (clientStored (counting 4095 true) .count) 4096
     ∷ eqb (clientStored (counting 4096 true) .count) 4097
     ∷ eqb (clientStored (counting 4097 true) .count) 4097
@@ -100,6 +110,10 @@ spacings =
     ∷ tooEarly takeBegins 1
     ∷ not (tooEarly (clientStored takeBegins) 1)
     ∷ tooEarly (clientStored takeBegins) 2
+    ∷ tooEarly (counting 62 true) 63
+    ∷ not (tooEarly (counting 63 true) 63)
+    ∷ not (tooEarly (counting 4096 true) 63)
+    ∷ tooEarly (counting 63 true) 64
     ∷ eqb (countedInOrSame Nothing (counting 1 true) .count) 1
     ∷ eqb (clientStored (counting 1 true) .count) 2
     ∷ eqb (countedInOrSame (One APut (Slot 1 (index (pos 0)))) (counting 1 true) .count) 2

@@ -1,5 +1,5 @@
 -- The store buffer. Renders, of the first paragraph of "The machine", the worker's pending stores, their drain and what the worker loads.
--- (How many may be pending: `hasRoom`, of `machine`.) It knows nothing of a queue's steps.
+-- (How many may be pending: `hasRoom`, of `machine`.) It knows no step of a queue, and who makes a store (`Maker`) is nothing to it.
 use mathlib.Core.Bool.{Bool, true, cond, _||_}
 use mathlib.Core.List.{List, _∷_, _++_, foldl}
 use Prim.Native.Nat.{ℕ, _+_, _-_, _<_}
