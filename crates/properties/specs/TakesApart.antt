@@ -13,7 +13,7 @@ use Rattle.machine.specs.InRange.{inRange}
 use Rattle.machine.specs.Obey.{machineAfter, obey, outcomesOf}
 use Rattle.properties.specs.Types.{Entry, Drain, ClientStore, BeginPut, BeginTake, WorkerStep, BeginSteal, ThiefStep, Outcome, Moved, Early, Sizes}
 
--- whether a take has begun, and how many stores of the client and of puts were seen since the last one did
+-- whether a take has begun, and how many stores of the client and of puts were seen since the last one did, or from the start
 pub record SinceTake : Type 0 where
   pub begun : Bool
   pub stores : ℕ
@@ -43,7 +43,8 @@ sinceTake c (e ∷ es) (o ∷ os) = sinceTake (sinceThen c e o) es os
 abbrev pub isEarly : ℕ → SinceTake → Bool
 isEarly spacing c = c .begun && ltb (c .stores) spacing
 
--- A take behind any list, where the machine is in range and the worker runs no call: 6 EARLY exactly where the reader says so, else it begins. Proved in `proofs/TakesApart.antt`.
+-- A take behind any list, where the machine is in range (after at most 4,096 entries it is: `run-in-range`, of `machine`) and the worker runs no call: 6 EARLY exactly where the reader says so, else it begins. Proved in
+-- `proofs/TakesApart.antt`.
 abbrev pub TakesApart : Type 0
 TakesApart =
     (s : Sizes) (es : List Entry)
