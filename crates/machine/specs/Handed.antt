@@ -50,9 +50,9 @@ countSinceTake = record { count = 5; begun = true }
 abbrev pub spacedSizes : Sizes
 spacedSizes = sized 4 2 6 1 1 0
 
--- Steps on machines in range that no schedule reaches. An unlock waits for pending stores, a restoring store for a place in the list and for nothing else; steal 3 goes by its own h; END is the tail's greatest
--- value and no other; the last load of a take sees pending stores; cells past the pending stores are not looked at. A count that a machine brings along, though it says that no take has begun, is no
--- ground for EARLY, and 0 from the next store on that counts; no step of a take changes the count, nor whether a take has begun.
+-- Steps on machines in range that no schedule reaches. An unlock waits for pending stores, a restoring store for a place in the list and for nothing else; steal 3 goes by its own h; END comes at a tail of
+-- 2,147,483,647 and at no other; the last load of a take sees pending stores; cells past the pending stores are not looked at. A count that a machine brings along, though it says that no take has begun, is no
+-- ground for EARLY, and becomes 0 with the next store that counts; no step of a take changes the count, nor whether a take has begun.
 abbrev pub handedRows : List Row
 handedRows =
     handed (pushed clientStore (withWorker (TakeUnlockTask zeroth) (fresh m3Sizes))) (workerGets Wait ++ drains 1 ++ workerMoves 1 ++ workerGets (Task 0))

@@ -24,7 +24,7 @@ workerView m c =
       loaded = workerLoads m (loads c);
     }
 
--- what its move does: the store that it makes is pending; lock and call are as the move says
+-- what its move does: the store that it makes is pending, and counted if it counts; lock and call are as the move says
 abbrev pub performWorker : Machine → WorkerMove → Done
 performWorker m d = done (d .outcome) (withWorker (d .call) (withLock (d .lock .holder) (withStore (d .push) m)))
 

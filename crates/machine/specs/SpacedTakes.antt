@@ -22,7 +22,7 @@ countsOncePending =
 abbrev pub twoFreshTasks : List Line
 twoFreshTasks = puts 1 ++ takes 1 ++ puts 2 ++ countIs 2 ∷ puts 3 ++ countIs 4 ∷ takes 3
 
--- .. also once they have drained, and so between every two takes
+-- .. also once they have drained; from the second take on stores are counted anew
 abbrev pub twoPutsBetweenTakes : List Line
 twoPutsBetweenTakes =
     puts 1 ++ takes 1 ++ puts 2 ++ drains 5 ++ countIs 2 ∷ puts 3 ++ drains 2 ++ countIs 4 ∷ takes 3
@@ -35,7 +35,7 @@ sameValueCounts = puts 0 ++ drains 2 ++ takes 0 ++ puts 0 ++ countIs 2 ∷ does 
 -- .. also while a thief holds the lock, which waives nothing either
 abbrev pub countsBesideThief : List Line
 countsBesideThief =
-    filled 1 ++ takes 1 ++ does (BeginSteal 0) Moved ∷ thiefMoves 1 ++ does BeginTake Early ∷ puts 2 ++ countIs 2 ∷ clientStores 1 ++ countIs 3 ∷ []
+    filled 1 ++ takes 1 ++ does (BeginSteal 0) Moved ∷ thiefMoves 1 ++ does BeginTake Early ∷ puts 2 ++ countIs 2 ∷ clientStores 1 ++ countIs 3 ∷ does BeginTake Moved ∷ []
 
 -- .. and no task is lost or given twice, with the margin that is needed for the spacing
 abbrev pub putBetweenTakesThenSteal : List Line

@@ -1,5 +1,5 @@
--- Rows of the tables over the definitions: a row is a story, entries with their outcomes and looks at the machine meanwhile, or a needed margin. With words for stories. The rows themselves are in `Rehearsals`,
--- `SpacedTakes` and `Handed`.
+-- Rows of the tables over the definitions: a row is a story, entries with their outcomes and looks at the machine meanwhile; a needed margin; or a machine at the edge of its range, or past it. With words for
+-- stories. The rows themselves are in `Rehearsals`, `SpacedTakes` and `Handed`.
 use mathlib.Core.Bool.{Bool, true, not, _&&_}
 use mathlib.Core.List.{List, [], _∷_, _++_, map}
 use Prim.Native.Nat.{ℕ}

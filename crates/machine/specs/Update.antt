@@ -29,7 +29,7 @@ withWorker c m = record { sizes = m .sizes; slots = m .slots; head = m .head; ta
 abbrev pub withThief : ℕ → ThiefCall → Machine → Machine
 withThief i c m = record { sizes = m .sizes; slots = m .slots; head = m .head; tail = m .tail; lock = m .lock; buffer = m .buffer; spacing = m .spacing; worker = m .worker; thieves = set (m .thieves) i (record { call = c }) }
 
--- The store that an entry makes, if it makes one, is pending. Of the spacing rule, as request 1 widens it: it counts as soon as it is.
+-- The store that an entry makes, if it makes one, is pending. Of the spacing rule, as request 1 widens it: if it is one that counts, it does so as soon as it is pending.
 abbrev pub withStore : Push → Machine → Machine
 withStore p m = withSpacing (countedIn p (m .spacing)) (withBuffer (pushedIn p (m .buffer)) m)
 

@@ -1,6 +1,6 @@
--- When a take is too early, as one sees who reads a schedule beside its outcomes. Renders the spacing rule of "The machine", as request 1 widens it: of any list of entries, any sizes
--- and any margin. The machine counts each store as it becomes pending (`Spacing`, of `stores`); a reader counts a client store that moved as one and a put that is STORED as two,
--- since no take begins within a put.
+-- When a take is too early, for a reader of a schedule and its outcomes. Renders the spacing rule of "The machine", as request 1 widens it: of every list of entries, with every margin.
+-- The machine counts each store as it becomes pending (`Spacing`, of `stores`); the reader counts a client store that moved as one and a put that is STORED as two, since no take begins within a
+-- put.
 use mathlib.Core.Path.{_≡_}
 use mathlib.Core.Bool.{Bool, true, false, cond, _&&_}
 use mathlib.Core.List.{List, [], _∷_}
@@ -13,7 +13,7 @@ use Rattle.machine.specs.InRange.{inRange}
 use Rattle.machine.specs.Obey.{machineAfter, obey, outcomesOf}
 use Rattle.properties.specs.Types.{Entry, Drain, ClientStore, BeginPut, BeginTake, WorkerStep, BeginSteal, ThiefStep, Outcome, Moved, Early, Sizes}
 
--- whether a take has begun, and how many stores of the client and of puts were seen since the last one did, or from the start
+-- whether a take has begun, and how many stores of the client and of puts were seen since the last one did; before the first, nothing goes by their number
 pub record SinceTake : Type 0 where
   pub begun : Bool
   pub stores : ℕ
@@ -43,7 +43,7 @@ sinceTake c (e ∷ es) (o ∷ os) = sinceTake (sinceThen c e o) es os
 abbrev pub isEarly : ℕ → SinceTake → Bool
 isEarly spacing c = c .begun && ltb (c .stores) spacing
 
--- A take behind any list, where the machine is in range (after at most 4,096 entries it is: `run-in-range`, of `machine`) and the worker runs no call: 6 EARLY exactly where the reader says so, else it begins. Proved in
+-- A take behind any list, where the machine is in range (after at most 4,096 entries it is: `run-in-range`, of `machine`) and the worker runs no call: 6 EARLY exactly where the reader says so, else it is moved. Proved in
 -- `proofs/TakesApart.antt`.
 abbrev pub TakesApart : Type 0
 TakesApart =

@@ -5,7 +5,7 @@ use Prim.Native.Nat.{ℕ}
 use lib.Dec.{eqb}
 use lib.IntN.{ℤ, pos, negsuc}
 use lib.ListN.{length, replicate}
-use Rattle.stores.specs.Types.{APut, ATake, Client, Index, Nobody, Nothing, One, Slot, Spacing, Tail, TheClient, Store, StoreBuffer, TheThief, TheWorker}
+use Rattle.stores.specs.Types.{APut, ATake, Client, Index, Nobody, Nothing, One, Slot, Spacing, Tail, TheClient, StoreBuffer, TheThief, TheWorker}
 use Rattle.stores.specs.Index.{aboveBy, belowByMore, eqZ, indexInRange, nextOrSame, previousOrSame, slotIndexInRange, slotOf}
 use Rattle.stores.specs.Lock.{isNobody}
 use Rattle.stores.specs.StoreBuffer.{clientStore, dropOldestOrSame, newestTail, pending, pushOrSame, pushedOrSame, slotAfter, storeInRange, tailStore}

@@ -2,7 +2,7 @@
 -- (How many may be pending: `hasRoom`, of `machine`.) It knows no step of a queue, and who makes a store (`Maker`) is nothing to it.
 use mathlib.Core.Bool.{Bool, true, cond, _||_}
 use mathlib.Core.List.{List, _∷_, _++_, foldl}
-use Prim.Native.Nat.{ℕ, _+_, _-_, _<_}
+use Prim.Native.Nat.{ℕ, _+_, _-_}
 use lib.Dec.{eqb, leb, ltb}
 use lib.ListN.{getD, take, drop, set, replicate}
 use Rattle.stores.specs.Types.{Index, Store, StoreBuffer, StoreKind, Client, Tail, Slot, Push, Nothing, One}
