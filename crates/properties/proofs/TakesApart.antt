@@ -1,6 +1,6 @@
 -- A take is too early where a reader of entries and outcomes says so: the machine's count is the reader's, and one more within a put that has made its first store.
 use mathlib.Core.Path.{_≡_, refl, ap, sym, _∙_, subst}
-use mathlib.Core.Bool.{Bool, true, false, cond, not, _&&_, false≢true}
+use mathlib.Core.Bool.{Bool, true, false, not, _&&_, false≢true}
 use mathlib.Core.List.{List, [], _∷_}
 use Prim.Native.Nat.{ℕ, _+_, _-_}
 use native.Mathlib.Omega.{arith}
@@ -8,7 +8,7 @@ use lib.Dec.{ltb}
 use Rattle.terms.proofs.Laws.Tests.{by-test, cond-map, decide, either}
 use Rattle.stores.specs.Lock.{isNobody}
 use Rattle.stores.specs.Spacing.{counted, countedIn, takeBegins, tooEarly}
-use Rattle.machine.specs.Worker.{atEnd, atOrAboveHead, headIsPast, isFull, stays, workerMove, workerRuns}
+use Rattle.machine.specs.Worker.{atEnd, atOrAboveHead, headIsPast, isFull, workerMove, workerRuns}
 use Rattle.machine.specs.Thief.{thiefRuns}
 use Rattle.machine.specs.Machine.{fresh, hasRoom, nothingPending, thiefCall}
 use Rattle.machine.specs.Update.{withSpacing}
@@ -17,8 +17,8 @@ use Rattle.machine.specs.Entries.{workerGoesOn}
 use Rattle.machine.specs.Obey.{machineAfter, obey, obeyInRange, outcomesOf, thiefIsThere}
 use Rattle.machine.specs.Perform.{workerView}
 use Rattle.machine.proofs.Laws.Obey.{obey-by, sizes-kept}
-use Rattle.properties.specs.Types.{Done, Entry, Drain, ClientStore, BeginPut, BeginTake, WorkerStep, BeginSteal, ThiefStep, Machine, Moved, Early, Wait, Sizes, Spacing, WorkerCall, PutLoadHead, PutStoreSlot, PutStoreTail, TakeStoreTail, TakeLoadHead, TakeLoadSlot, TakeLock, TakeReloadHead, TakeRestoreTail, TakeUnlockEmpty, TakeUnlockTask, TakeLoadLastSlot, WorkerMove, WorkerView}
-use Rattle.properties.specs.CallLength.{CallKind, none, put, take, steal, Progress, noneRuns}
+use Rattle.properties.specs.Types.{Done, Entry, Drain, ClientStore, BeginPut, BeginTake, WorkerStep, BeginSteal, ThiefStep, Machine, Wait, Spacing, WorkerCall, PutLoadHead, PutStoreSlot, PutStoreTail, TakeStoreTail, TakeLoadHead, TakeLoadSlot, TakeLock, TakeReloadHead, TakeRestoreTail, TakeUnlockEmpty, TakeUnlockTask, TakeLoadLastSlot, WorkerMove, WorkerView}
+use Rattle.properties.specs.CallLength.{CallKind, none, put, take, steal, noneRuns}
 use Rattle.properties.specs.TakesApart.{SinceTake, TakesApart, atFirst, isEarly, sinceTake, sinceThen}
 use Rattle.properties.proofs.CallLength.{worker-idle, workerMade}
 
@@ -57,22 +57,22 @@ module _ (c : SinceTake) (s : Spacing) where
   StepSeen k d = Seen c s (withinPut k) → Seen (sinceThen c WorkerStep (d .outcome)) (countedIn (d .push) s) (withinPut (d .call))
 
   -- a step that is refused leaves the call as it was
-  refused : (k : WorkerCall) (v : WorkerView) → v .call ≡ k → StepSeen k (stays Wait v)
-  refused k v same = subst (λ call. Seen c s (withinPut call)) (sym same)
+  refused : {k : WorkerCall} (v : WorkerView) → v .call ≡ k → Seen c s (withinPut k) → Seen c s (withinPut (v .call))
+  refused v same = subst (λ call. Seen c s (withinPut call)) (sym same)
 
   step-seen : (k : WorkerCall) (v : WorkerView) → v .call ≡ k → StepSeen k (workerMove k v)
-  step-seen WorkerCall.Idle v same = subst (λ call. Seen c s (withinPut call)) (sym same)
+  step-seen WorkerCall.Idle v same = refused v same
   step-seen (PutLoadHead x) v same = either (StepSeen (PutLoadHead x)) (atEnd v) (λ e. e) (either (StepSeen (PutLoadHead x)) (isFull v) (λ e. e) (λ e. e))
-  step-seen (PutStoreSlot x) v same = either (StepSeen (PutStoreSlot x)) (v .room) (λ e. one-more e refl (omega arith)) (refused (PutStoreSlot x) v same)
-  step-seen PutStoreTail v same = either (StepSeen PutStoreTail) (v .room) (λ e. one-more e refl (omega arith)) (refused PutStoreTail v same)
-  step-seen TakeStoreTail v same = either (StepSeen TakeStoreTail) (v .room) (λ e. e) (refused TakeStoreTail v same)
+  step-seen (PutStoreSlot x) v same = either (StepSeen (PutStoreSlot x)) (v .room) (λ e. one-more e refl (omega arith)) (refused v same)
+  step-seen PutStoreTail v same = either (StepSeen PutStoreTail) (v .room) (λ e. one-more e refl (omega arith)) (refused v same)
+  step-seen TakeStoreTail v same = either (StepSeen TakeStoreTail) (v .room) (λ e. e) (refused v same)
   step-seen (TakeLoadHead t) v same = either (StepSeen (TakeLoadHead t)) (atOrAboveHead t v) (λ e. e) (λ e. e)
   step-seen (TakeLoadSlot t) v same = λ e. e
-  step-seen (TakeLock t) v same = either (StepSeen (TakeLock t)) (isNobody (v .lock .holder) && v .drained) (λ e. e) (refused (TakeLock t) v same)
+  step-seen (TakeLock t) v same = either (StepSeen (TakeLock t)) (isNobody (v .lock .holder) && v .drained) (λ e. e) (refused v same)
   step-seen (TakeReloadHead t) v same = either (StepSeen (TakeReloadHead t)) (headIsPast t v) (λ e. e) (λ e. e)
-  step-seen (TakeRestoreTail t) v same = either (StepSeen (TakeRestoreTail t)) (v .room) (λ e. e) (refused (TakeRestoreTail t) v same)
-  step-seen TakeUnlockEmpty v same = either (StepSeen TakeUnlockEmpty) (v .drained) (λ e. e) (refused TakeUnlockEmpty v same)
-  step-seen (TakeUnlockTask t) v same = either (StepSeen (TakeUnlockTask t)) (v .drained) (λ e. e) (refused (TakeUnlockTask t) v same)
+  step-seen (TakeRestoreTail t) v same = either (StepSeen (TakeRestoreTail t)) (v .room) (λ e. e) (refused v same)
+  step-seen TakeUnlockEmpty v same = either (StepSeen TakeUnlockEmpty) (v .drained) (λ e. e) (refused v same)
+  step-seen (TakeUnlockTask t) v same = either (StepSeen (TakeUnlockTask t)) (v .drained) (λ e. e) (refused v same)
   step-seen (TakeLoadLastSlot t) v same = λ e. e
 
 -- ── Each entry ──────────────────────────────────────────────────────────────────────────────────────────────────────────────
