@@ -1,18 +1,20 @@
 ghost use mathlib.Core.Path.{_≡_};
 ghost use Prim.Native.Nat.{_+_, _*_, _-_, _≤_, _<_};
 ghost use lib.ListN.{length};
-ghost use Rattle.comparison.specs.Alike.{LikenessRefuses, likeness, sameAnswers, sameLine, sameSizes};
-ghost use Rattle.comparison.specs.Comparison.{answered, firstFrom, partyIn, sameFor, sameForAll};
-ghost use Rattle.schedule.specs.Reader.{readFile};
+ghost use Rattle.comparison.specs.Alike.{LikenessRefuses, likeness, partyNumber, sameLine, sameSizes};
+ghost use Rattle.comparison.specs.Comparison.{answered, firstFrom, sameFor, sameForAll, sameRuns};
+ghost use Rattle.schedule.specs.Format.{wordsIn};
 ghost use Rattle.schedule.specs.Trace.{lineIn};
-ghost use Rattle.comparison.specs.Types.{Accepted};
 use number::word_at;
 use schedule::LONGEST_TRACE;
 use schedule::Reading;
-use schedule::SIZES_BYTES;
+use schedule::entry_at;
+use schedule::kind_part;
+use schedule::obey_entries;
+use schedule::operand_part;
 use schedule::read;
 use schedule::refusal_of;
-use schedule::run;
+use terms::Entry;
 use terms::Refusal;
 use terms::Sizes;
 use terms::is_answer;
@@ -51,26 +53,37 @@ fn same_sizes(first: Sizes, second: Sizes) -> bool
     first.start == second.start
 }
 
-// Whose entry it is, by its kind and its operand: the worker is party 0, thief i is party i + 1.
-fn party_of(kind: u8, operand: u32) -> usize
-    ensures { λ r. ⌜ r ≡ partyIn kind operand ⌝ }
+// Whose entry it is: the worker is party 0, thief i is party i + 1.
+fn party_of(entry: Entry) -> usize
+    ensures { λ r. ⌜ r ≡ partyNumber entry ⌝ }
 {
-    if kind < 5 {
-        return 0;
+    match entry {
+        Entry::Drain => 0,
+        Entry::ClientStore => 0,
+        Entry::BeginPut(_) => 0,
+        Entry::BeginTake => 0,
+        Entry::WorkerStep => 0,
+        Entry::BeginSteal(thief) => thief as usize + 1,
+        Entry::ThiefStep(stepping) => stepping as usize + 1,
     }
-    operand as usize + 1
 }
 
 // The first entry, from a place on, that gets an answer for the party; behind the last entry, if there is none.
-fn next_answer(party: usize, entries: usize, file: &[u8], trace: &[u8], from: usize) -> usize
-    requires { ⌜ (length (now file) ≡ 28 + 5 * entries) × (4 + 5 * entries ≤ length (now trace)) × (from ≤ entries) × (entries ≤ 4096) ⌝ }
-    ensures { λ r. ⌜ r ≡ firstFrom (answered party entries (now (file .entry)) (now (trace .entry))) from (entries - from) ⌝ }
+fn next_answer(
+    party: usize,
+    sizes: Sizes,
+    kinds: &[u8],
+    operands: &[u8],
+    trace: &[u8],
+    from: usize,
+) -> usize
+    requires { ⌜ (4 + 5 * length (now kinds) ≤ length (now trace)) × (from ≤ length (now kinds)) ⌝ }
+    ensures { λ r. ⌜ r ≡ firstFrom (answered party sizes (now (kinds .entry)) (wordsIn (now (operands .entry))) (now (trace .entry))) from (length (now (kinds .entry)) - from) ⌝ }
 {
     let mut at = from;
-    while at < entries {
+    while at < kinds.len() {
         if is_answer(trace[4 + at]) {
-            let operand = word_at(file, SIZES_BYTES + entries + 4 * at);
-            if party_of(file[SIZES_BYTES + at], operand) == party {
+            if party_of(entry_at(sizes, kinds, operands, at)) == party {
                 return at;
             }
         }
@@ -102,49 +115,59 @@ fn same_line(
 // Whether a party gets the same answers in two runs: from one of its answers to the next, in both at once.
 fn same_for(
     party: usize,
-    entries: usize,
-    file: &[u8],
+    sizes: Sizes,
+    kinds: &[u8],
+    operands: &[u8],
     trace: &[u8],
-    others: usize,
-    other: &[u8],
+    others: &[u8],
+    other_operands: &[u8],
     other_trace: &[u8],
 ) -> bool
-    requires { ⌜ (length (now file) ≡ 28 + 5 * entries) × (4 + 5 * entries ≤ length (now trace)) × (entries ≤ 4096) ⌝ }
-    requires { ⌜ (length (now other) ≡ 28 + 5 * others) × (4 + 5 * others ≤ length (now «other_trace»)) × (others ≤ 4096) ⌝ }
-    ensures { λ r. ⌜ r ≡ sameFor entries (now (file .entry)) (now (trace .entry)) others (now (other .entry)) (now («other_trace» .entry)) party ⌝ }
+    requires { ⌜ (4 + 5 * length (now kinds) ≤ length (now trace)) × (length (now kinds) ≤ 4096) ⌝ }
+    requires { ⌜ (4 + 5 * length (now others) ≤ length (now «other_trace»)) × (length (now others) ≤ 4096) ⌝ }
+    ensures { λ r. ⌜ r ≡ sameFor sizes (now (kinds .entry)) (wordsIn (now (operands .entry))) (now (trace .entry)) (now (others .entry)) (wordsIn (now («other_operands» .entry))) (now («other_trace» .entry)) party ⌝ }
 {
-    let mut at = next_answer(party, entries, file, trace, 0);
-    let mut there = next_answer(party, others, other, other_trace, 0);
-    while at < entries {
-        if there == others {
+    let mut at = next_answer(party, sizes, kinds, operands, trace, 0);
+    let mut there = next_answer(party, sizes, others, other_operands, other_trace, 0);
+    while at < kinds.len() {
+        if there == others.len() {
             return false;
         }
-        if !same_line(entries, trace, at, others, other_trace, there) {
+        if !same_line(kinds.len(), trace, at, others.len(), other_trace, there) {
             return false;
         }
-        at = next_answer(party, entries, file, trace, at + 1);
-        there = next_answer(party, others, other, other_trace, there + 1);
+        at = next_answer(party, sizes, kinds, operands, trace, at + 1);
+        there = next_answer(party, sizes, others, other_operands, other_trace, there + 1);
     }
-    there == others
+    there == others.len()
 }
 
 // Whether no party's answers differ between two runs, the worker's and every thief's.
 fn same_for_all(
-    thieves: u32,
-    entries: usize,
-    file: &[u8],
+    sizes: Sizes,
+    kinds: &[u8],
+    operands: &[u8],
     trace: &[u8],
-    others: usize,
-    other: &[u8],
+    others: &[u8],
+    other_operands: &[u8],
     other_trace: &[u8],
 ) -> bool
-    requires { ⌜ (length (now file) ≡ 28 + 5 * entries) × (4 + 5 * entries ≤ length (now trace)) × (entries ≤ 4096) ⌝ }
-    requires { ⌜ (length (now other) ≡ 28 + 5 * others) × (4 + 5 * others ≤ length (now «other_trace»)) × (others ≤ 4096) ⌝ }
-    ensures { λ r. ⌜ r ≡ sameForAll thieves entries (now (file .entry)) (now (trace .entry)) others (now (other .entry)) (now («other_trace» .entry)) ⌝ }
+    requires { ⌜ (4 + 5 * length (now kinds) ≤ length (now trace)) × (length (now kinds) ≤ 4096) ⌝ }
+    requires { ⌜ (4 + 5 * length (now others) ≤ length (now «other_trace»)) × (length (now others) ≤ 4096) ⌝ }
+    ensures { λ r. ⌜ r ≡ sameForAll sizes (now (kinds .entry)) (wordsIn (now (operands .entry))) (now (trace .entry)) (now (others .entry)) (wordsIn (now («other_operands» .entry))) (now («other_trace» .entry)) ⌝ }
 {
     let mut party = 0;
-    while party <= thieves as usize {
-        if !same_for(party, entries, file, trace, others, other, other_trace) {
+    while party <= sizes.thieves as usize {
+        if !same_for(
+            party,
+            sizes,
+            kinds,
+            operands,
+            trace,
+            others,
+            other_operands,
+            other_trace,
+        ) {
             return false;
         }
         party += 1;
@@ -152,22 +175,28 @@ fn same_for_all(
     true
 }
 
-// Whether no party's answers differ between two files that were read, with the same sizes. The traces are its own.
-fn same_runs(sizes: Sizes, entries: usize, file: &[u8], others: usize, other: &[u8]) -> bool
-    requires { ⌜ (readFile (now file) ≡ Accepted sizes entries) × (readFile (now other) ≡ Accepted sizes others) ⌝ }
-    ensures { λ r. ⌜ r ≡ sameAnswers (sizes .thieves) (now (file .entry)) (now (other .entry)) ⌝ }
+// Whether no party's answers differ between two schedules with the same sizes, each given by the two parts of its file. The traces are its own.
+fn same_runs(
+    sizes: Sizes,
+    kinds: &[u8],
+    operands: &[u8],
+    others: &[u8],
+    other_operands: &[u8],
+) -> bool
+    requires { ⌜ (length (now kinds) ≤ 4096) × (length (now others) ≤ 4096) ⌝ }
+    ensures { λ r. ⌜ r ≡ sameRuns sizes (now (kinds .entry)) (wordsIn (now (operands .entry))) (now (others .entry)) (wordsIn (now («other_operands» .entry))) ⌝ }
 {
     let mut trace = [0; LONGEST_TRACE];
     let mut other_trace = [0; LONGEST_TRACE];
-    run(file, &mut trace);
-    run(other, &mut other_trace);
+    obey_entries(sizes, kinds, operands, &mut trace);
+    obey_entries(sizes, others, other_operands, &mut other_trace);
     same_for_all(
-        sizes.thieves,
-        entries,
-        file,
+        sizes,
+        kinds,
+        operands,
         &trace,
         others,
-        other,
+        other_operands,
         &other_trace,
     )
 }
@@ -178,15 +207,19 @@ pub fn alike(first: &[u8], second: &[u8]) -> Likeness
     ensures { λ r. ⌜ LikenessRefuses (now (first .entry)) (now (second .entry)) r ⌝ }
 {
     let reading = read(first);
-    let Reading::Accepted(sizes, entries) = reading else {
+    let Reading::Accepted(sizes, _) = reading else {
         return Likeness::FirstRefused(refusal_of(reading));
     };
     let other = read(second);
-    let Reading::Accepted(other_sizes, others) = other else {
+    let Reading::Accepted(other_sizes, _) = other else {
         return Likeness::SecondRefused(refusal_of(other));
     };
     if same_sizes(sizes, other_sizes) {
-        if same_runs(sizes, entries, first, others, second) {
+        let kinds = kind_part(first, reading);
+        let operands = operand_part(first, reading);
+        let others = kind_part(second, other);
+        let other_operands = operand_part(second, other);
+        if same_runs(sizes, kinds, operands, others, other_operands) {
             return Likeness::Alike;
         }
     }

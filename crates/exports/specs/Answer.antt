@@ -8,12 +8,12 @@ use Rattle.terms.specs.Refusal.{numberOf, placeOf}
 use Rattle.schedule.specs.declared.reader.Reading.the-variants as reading
 use Rattle.schedule.specs.declared.runner.Running.the-variants as running
 use Rattle.writer.specs.declared.writer.Writing.the-variants as writing
-use Rattle.schedule.specs.Reader.{readFile}
+use Rattle.schedule.specs.Reader.{readFile, refusalOf}
 use Rattle.schedule.specs.Run.{runFile, traceAfter}
 use Rattle.number.specs.Number.{wordPut}
 use Rattle.exports.specs.Types.{Accepted, Alike, FirstRefused, Likeness, NotAlike, Ran, Reading, Refusal, Room, Running, SecondRefused, Sizes, Tally, Writing, Written}
 
--- a refusal as one number of 64 bits: its number in the upper half, and in the lower the 32 lowest bits of its place. Places are below 4,097, so that is the place.
+-- a refusal as one number of 64 bits: its number in the upper half, and in the lower the 32 lowest bits of its place. Places are below 4,096, so that is the place.
 abbrev pub refusalAnswer : Refusal → ℕ
 refusalAnswer r = numberOf r * 4294967296 + placeOf r % 4294967296
 
@@ -23,11 +23,6 @@ wordsPut at [] bytes = bytes
 wordsPut at (n ∷ ns) bytes = wordsPut (at + 4) ns (wordPut at n bytes)
 
 -- ── Reading ─────────────────────────────────────────────────────────────────────────────────────────────────────────────────
-
--- the refusal of a file, or else ROOM, where too few bytes are lent for what is to be told of it
-abbrev pub refusalOrRoom : Reading → Refusal
-refusalOrRoom (Accepted s entries) = Room
-refusalOrRoom (reading.Refused r) = r
 
 abbrev pub tooFew : ℕ → List ℕ → Bool
 tooFew needed bytes = ltb (length bytes) needed
@@ -50,7 +45,7 @@ sizesAfter (reading.Refused r) bytes = bytes
 
 -- the answer of a run into a trace buffer of so many bytes; 12 bytes are to be lent for the totals, or nothing is run
 abbrev pub runInto : List ℕ → ℕ → List ℕ → Running
-runInto file room totals = cond (tooFew 12 totals) (running.Refused (refusalOrRoom (readFile file))) (runFile file room)
+runInto file room totals = cond (tooFew 12 totals) (running.Refused (refusalOf (readFile file))) (runFile file room)
 
 -- 0, or the refusal
 abbrev pub runningAnswer : Running → ℕ

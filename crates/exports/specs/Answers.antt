@@ -50,6 +50,7 @@ table =
     -- six sizes in 24 bytes, and nothing in fewer; a fault of the file comes first
     ∷ reads exampleFile (before 26) 6 (take 24 exampleFile ++ before 2)
     ∷ reads differentFile (before 24) 0 (take 24 differentFile)
+    ∷ reads (sizeBytes (sized 4 2 0 0 1 0) 0) (before 24) 0 (take 24 (sizeBytes (sized 4 2 0 0 1 0) 0))
     ∷ reads exampleFile (before 23) 34359738368 (before 23)
     ∷ reads (exampleFile ++ (0 ∷ [])) (before 24) 8589934592 (before 24)
     ∷ reads [] (before 23) 8589934592 (before 23)

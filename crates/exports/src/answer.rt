@@ -1,10 +1,7 @@
 ghost use mathlib.Core.Path.{_≡_};
-ghost use Rattle.schedule.specs.Reader.{readFile};
-ghost use Rattle.exports.specs.Answer.{likenessAnswer, refusalAnswer, refusalOrRoom, sizesPut, totalsPut};
+ghost use Rattle.exports.specs.Answer.{likenessAnswer, refusalAnswer, sizesPut, totalsPut};
 use comparison::Likeness;
 use number::put_word;
-use schedule::Reading;
-use schedule::read;
 use terms::Refusal;
 use terms::Sizes;
 use terms::Tally;
@@ -15,17 +12,6 @@ pub(crate) fn answer_of(refusal: Refusal) -> u64
 {
     let place = refusal.place() as u64;
     refusal.number() as u64 * 4294967296 + place % 4294967296
-}
-
-// Why a file for which too few bytes are lent is refused: a fault of its own comes first.
-pub(crate) fn refusal_or_room(file: &[u8]) -> Refusal
-    ensures { λ r. ⌜ r ≡ refusalOrRoom (readFile (now (file .entry))) ⌝ }
-{
-    let reading = read(file);
-    match reading {
-        Reading::Accepted(_, _) => Refusal::Room,
-        Reading::Refused(refusal) => refusal,
-    }
 }
 
 // What a comparison found as the number that an exported function answers.

@@ -9,7 +9,6 @@ use crate::answer::answer_of;
 use crate::answer::likeness_of;
 use crate::answer::put_sizes;
 use crate::answer::put_totals;
-use crate::answer::refusal_or_room;
 use comparison::alike;
 use schedule::Reading;
 use schedule::Running;
@@ -48,7 +47,7 @@ pub extern "C" fn rehearsal_run(file: &[u8], trace: &mut [u8], totals: &mut [u8]
     ensures { λ _. ⌜ now (totals .exit) ≡ totalsAfter (runInto (now (file .entry)) (length (now (trace .entry))) (now (totals .entry))) (now (totals .entry)) ⌝ }
 {
     if totals.len() < 12 {
-        return answer_of(refusal_or_room(file));
+        return answer_of(refusal_of(read(file)));
     }
     let running = run(file, trace);
     match running {

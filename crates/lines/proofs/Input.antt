@@ -19,7 +19,7 @@ use Rattle.schedule.specs.Format.{decode, entriesIn, kindsIn, layout, operandsI
 use Rattle.schedule.specs.Reader.{readFile, readingOf}
 use Rattle.schedule.proofs.Laws.Check.{few-entries}
 use Rattle.schedule.proofs.Laws.Format.{total}
-use Rattle.lines.specs.Types.{Refusal, Sizes}
+use Rattle.lines.specs.Types.{Refusal}
 use Rattle.lines.specs.Lines.{linesFor, linesOf, refusalLine}
 use Rattle.lines.specs.Input.{BeginningDecides}
 
@@ -53,7 +53,7 @@ overlong-read file long = go (rangesIn file) refl
     n = entriesIn file
 
     entries : Check
-    entries = checkEntries (sizesIn file .thieves) (kindsIn n file) (operandsIn n file)
+    entries = checkEntries (sizesIn file) (kindsIn n file) (operandsIn n file)
 
     enough : failIf (ltb (length file) 28) Short ≡ Passed
     enough = ap (λ t. failIf t Short) (le-ltb (length file) 28 (omega arith))

@@ -46,9 +46,13 @@ totalsLine t = line (ascii "given" ∷ decimal (t .given) ∷ ascii "aborts" ∷
 abbrev pub refusalLine : Refusal → List ℕ
 refusalLine r = line (ascii "refused" ∷ decimal (refusal.numberOf r) ∷ ascii "place" ∷ decimal (refusal.placeOf r) ∷ [])
 
+-- the lines of a run with these outcomes
+abbrev pub runLines : Sizes → List Outcome → List ℕ
+runLines s os = sizesLine s ++ entryLines 0 os ++ totalsLine (tallyOf os)
+
 -- all lines, by the reader's answer
 abbrev pub linesFor : List ℕ → Reading → List ℕ
-linesFor file (Accepted s entries) = sizesLine s ++ entryLines 0 (outcomesIn file) ++ totalsLine (tallyOf (outcomesIn file))
+linesFor file (Accepted s entries) = runLines s (outcomesIn file)
 linesFor file (reading.Refused r) = refusalLine r
 
 -- what the program prints for a file

@@ -3,21 +3,22 @@ ghost use mathlib.Core.List.{[], _∷_};
 ghost use Prim.Native.Nat.{_+_, _*_, _≤_, _<_};
 ghost use lib.ListN.{length, replicate};
 ghost use Rattle.number.specs.Number.{overwritten};
-ghost use Rattle.schedule.specs.Reader.{readFile};
+ghost use Rattle.schedule.specs.Format.{wordsIn};
+ghost use Rattle.schedule.specs.Run.{outcomesFrom};
 ghost use Rattle.lines.specs.FromTrace.{linesFromTrace, threeNumbers};
-ghost use Rattle.lines.specs.Lines.{linesOf, marginWord, refusalLine, sizesLine, totalsLine};
+ghost use Rattle.lines.specs.Lines.{linesOf, marginWord, refusalLine, runLines, sizesLine, totalsLine};
 ghost use Rattle.lines.specs.Text.{line};
-ghost use Rattle.lines.specs.Types.{Accepted};
 ghost use Rattle.terms.specs.Refusal.{placeOf};
 use crate::text::put_bytes;
 use crate::text::put_number;
 use number::word_at;
 use schedule::LONGEST_TRACE;
 use schedule::Reading;
-use schedule::Running;
+use schedule::kind_part;
+use schedule::obey_entries;
+use schedule::operand_part;
 use schedule::read;
 use schedule::refusal_of;
-use schedule::run;
 use terms::Refusal;
 use terms::Sizes;
 use terms::Tally;
@@ -122,20 +123,16 @@ fn put_refusal(text: &mut [u8], refusal: Refusal) -> usize
     put_number(text, end, place as u32, NEWLINE)
 }
 
-// Puts the lines of a file that was read. Answers where they end.
-fn put_run(text: &mut [u8], file: &[u8], sizes: Sizes, entries: usize) -> usize
-    requires { ⌜ (135293 ≤ length (now text)) × (readFile (now file) ≡ Accepted sizes entries) ⌝ }
-    ensures { λ r. ⌜ (r ≡ length (linesOf (now (file .entry)))) × (r ≤ 135293) ⌝ }
-    ensures { λ _. ⌜ now (text .exit) ≡ overwritten 0 (linesOf (now (file .entry))) (now (text .entry)) ⌝ }
+// Puts the lines of a file that was read, by its sizes and its two parts. Answers where they end.
+fn put_run(text: &mut [u8], sizes: Sizes, kinds: &[u8], operands: &[u8]) -> usize
+    requires { ⌜ (135293 ≤ length (now text)) × (length (now kinds) ≤ 4096) ⌝ }
+    ensures { λ r. ⌜ (r ≡ length (runLines sizes (outcomesFrom sizes (now (kinds .entry)) (wordsIn (now (operands .entry)))))) × (r ≤ 135293) ⌝ }
+    ensures { λ _. ⌜ now (text .exit) ≡ overwritten 0 (runLines sizes (outcomesFrom sizes (now (kinds .entry)) (wordsIn (now (operands .entry))))) (now (text .entry)) ⌝ }
 {
     let mut trace = [0; LONGEST_TRACE];
-    let running = run(file, &mut trace);
-    let Running::Ran(tally) = running else {
-        // Not reached: the file was read, and every trace fits.
-        return 0;
-    };
+    let tally = obey_entries(sizes, kinds, operands, &mut trace);
     let first = put_sizes(text, sizes);
-    let last = put_entries(text, first, entries, &trace);
+    let last = put_entries(text, first, kinds.len(), &trace);
     put_totals(text, last, tally)
 }
 
@@ -146,10 +143,12 @@ fn put_lines(text: &mut [u8], file: &[u8]) -> usize
     ensures { λ _. ⌜ now (text .exit) ≡ overwritten 0 (linesOf (now (file .entry))) (now (text .entry)) ⌝ }
 {
     let reading = read(file);
-    let Reading::Accepted(sizes, entries) = reading else {
+    let Reading::Accepted(sizes, _) = reading else {
         return put_refusal(text, refusal_of(reading));
     };
-    put_run(text, file, sizes, entries)
+    let kinds = kind_part(file, reading);
+    let operands = operand_part(file, reading);
+    put_run(text, sizes, kinds, operands)
 }
 
 // What the program prints for a file.

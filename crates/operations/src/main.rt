@@ -18,7 +18,8 @@ use image::machine_in;
 use image::put_machine;
 use number::put_word;
 use number::word_at;
-use terms::Meaning;
+use schedule::Check;
+use terms::Sizes;
 use terms::Tally;
 
 // The longest request, without the five bytes in front.
@@ -59,40 +60,71 @@ fn answer_step(request: &[u8]) {
     write_step(&response);
 }
 
-// Writes the response to `e`.
-fn write_entry(refusal: u8, kind: u32, number: usize) {
-    let mut response = [0; 10];
-    response[0] = 6;
-    response[4] = refusal;
-    // Four bytes are put, and the number takes the place of the upper three.
-    put_word(&mut response, 5, kind);
-    put_word(&mut response, 6, (number % 4294967296) as u32);
+// Writes a response of a byte and a number.
+fn write_pair(byte: u8, number: u32) {
+    let mut response = [0; 9];
+    response[0] = 5;
+    response[4] = byte;
+    put_word(&mut response, 5, number);
     io::write_all(1, &response);
 }
 
-// `e`, one entry of two parallel arrays. Given are how many thieves there are, the place, how many kinds there are, the kinds, and the
-// operands. The response is a byte 0, a byte that is the kind, and the operand; or the refusal's number as a byte, a byte 0, and its place.
+// The six sizes at the front of a request.
+fn sizes_in(request: &[u8]) -> Sizes {
+    Sizes {
+        slots: word_at(request, 0),
+        buffer: word_at(request, 4),
+        spacing: word_at(request, 8),
+        margin: word_at(request, 12),
+        thieves: word_at(request, 16),
+        start: word_at(request, 20),
+    }
+}
+
+// `e`, the entry to obey at a place of two parts. Given are six sizes, the place, how many kinds there are, the kinds, and the operands. The response is the entry's kind,
+// which is a byte, and its operand.
 fn answer_entry(request: &[u8]) {
-    let thieves = word_at(request, 0);
-    let at = word_at(request, 4) as usize;
-    let operands = 12 + word_at(request, 8) as usize;
+    let at = word_at(request, 24) as usize;
+    let operands = 32 + word_at(request, 28) as usize;
     if request.len() < operands {
         return write_length(0);
     }
-    let found = schedule::entry_at(thieves, &request[12..operands], &request[operands..], at);
-    match found {
-        Meaning::Allowed(entry) => {
-            let told = tags::of_entry(entry);
-            write_entry(0, told.0, told.2 as usize);
-        }
-        Meaning::Refused(refusal) => write_entry(refusal.number(), 0, refusal.place()),
+    let entry = schedule::entry_at(
+        sizes_in(request),
+        &request[32..operands],
+        &request[operands..],
+        at,
+    );
+    let told = tags::of_entry(entry);
+    write_pair((told.0 % 256) as u8, told.2);
+}
+
+// `c`, the check of the entries of two parts. Given are six sizes, how many kinds there are, the kinds, and the operands. The response is the refusal's number, which is a
+// byte, and its place; or two numbers 0.
+fn answer_check(request: &[u8]) {
+    let operands = 28 + word_at(request, 24) as usize;
+    if request.len() < operands {
+        return write_length(0);
+    }
+    let checked = schedule::check_entries(
+        sizes_in(request),
+        &request[28..operands],
+        &request[operands..],
+    );
+    match checked {
+        Check::Passed => write_pair(0, 0),
+        Check::Failed(refusal) => write_pair(
+            refusal.number(),
+            (refusal.place() % 4294967296) as u32,
+        ),
     }
 }
 
 // `p`, the two parts of a file. The response is how many kinds there are, the kinds, and the operands.
 fn answer_parts(file: &[u8]) {
-    let kinds = schedule::kind_part(file);
-    let operands = schedule::operand_part(file);
+    let reading = schedule::read(file);
+    let kinds = schedule::kind_part(file, reading);
+    let operands = schedule::operand_part(file, reading);
     write_length(std::num::wrapping_add_usize(4, kinds.len() + operands.len()));
     write_length(kinds.len());
     io::write_all(1, kinds);
@@ -113,6 +145,7 @@ fn answer(name: u8, request: &[u8]) {
     match name {
         b'o' => answer_step(request),
         b'e' => answer_entry(request),
+        b'c' => answer_check(request),
         b'p' => answer_parts(request),
         b'l' => answer_lines(request),
         _ => write_length(0),

@@ -1,31 +1,30 @@
 -- What is refused has the fault that is given, and what has a fault is refused: by the reader, and where a file is run.
 use mathlib.Core.Path.{_≡_, refl, ap, sym, _∙_, subst}
-use mathlib.Core.Bool.{Bool, true, false, and-false, cond, not, _&&_, _||_, false≢true}
+use mathlib.Core.Bool.{Bool, true, false, and-false, not, _||_, false≢true}
 use mathlib.Core.List.{List}
 use Prim.Native.Nat.{ℕ, zero, suc, _+_, _*_, _≤_, _<_}
 use native.Mathlib.Omega.{arith}
-use lib.Dec.{eqb, leb, ltb}
+use lib.Dec.{eqb, ltb}
 use lib.ListN.{getD, length}
-use borrow.Author.Tests.{eq-eqb, le-leb, le-ltb, lt-ltb, ltb-false, ltb-true}
+use borrow.Author.Tests.{eq-eqb, le-ltb, ltb-false, ltb-true}
 use Rattle.schedule.specs.Types.{Accepted, Failed, Kind, Passed, Reading, Refusal, Room, Running, Short, Size, Sizes, Who}
 use Rattle.schedule.specs.declared.reader.Reading.the-variants as reading
 use Rattle.schedule.specs.declared.runner.Running.the-variants as running
 use Rattle.schedule.specs.Check.{checkRanges}
 use Rattle.schedule.specs.Entries.{checkEntries, checkOf, entryAt}
 use Rattle.schedule.specs.Faults.{ReaderRefusesFaults, RefusedRunUntouched, RunnerRefusesFaults}
-use Rattle.schedule.specs.Faults.{faultAt, faultsOf, fileHas, operandAllowed, refusalInReading, refusalInRunning, runHas}
+use Rattle.schedule.specs.Faults.{entryHas, faultAt, faultsOf, fileHas, refusalInReading, refusalInRunning, runHas}
 use Rattle.terms.specs.Refusal.{Refuses, numberOf, placeOf}
 use Rattle.terms.proofs.Laws.Tests.{decide, either}
 use Rattle.schedule.specs.Format.{entriesIn, kindsIn, operandsIn, sizesIn}
 use Rattle.schedule.specs.Reader as reader
 use Rattle.schedule.specs.Run.{outcomesIn, runningOf, traceIf}
-use Rattle.schedule.specs.Totals.{tallyOf}
 use Rattle.schedule.specs.Trace.{traceLength, traceOf}
 use Rattle.schedule.proofs.Laws.Reader.{accepted-readable, refused-reading}
-use Rattle.schedule.proofs.Laws.Run.{not-both-run}
 use Rattle.schedule.proofs.Laws.Check.{failIf-failed, not-both}
 use Rattle.schedule.proofs.Laws.Check.{ranges-failed, ranges-passed, range-failed}
-use Rattle.schedule.proofs.Laws.Entries.{entries-passed, entry-passed, entryAt-check}
+use Rattle.schedule.proofs.FirstFault.{entry-told, none-faulty}
+use Rattle.schedule.proofs.Laws.Entries.{entryAt-no-operand}
 use Rattle.schedule.proofs.Laws.Format.{length-kindsIn, length-operandsIn}
 
 -- ── What reader and writer share ────────────────────────────────────────────────────────────────────────────────────────────
@@ -34,71 +33,46 @@ use Rattle.schedule.proofs.Laws.Format.{length-kindsIn, length-operands
 abbrev pub hasFault : Sizes → ℕ → List ℕ → List ℕ → Bool → Bool → Refusal → Bool
 hasFault s entries kinds operands wrongLength noRoom r = faultAt s entries kinds operands wrongLength noRoom (numberOf r) (placeOf r)
 
-module _ (s : Sizes) (entries : ℕ) (kinds operands : List ℕ) (long : length kinds ≡ entries) (wrongLength noRoom : Bool) where
+module _ (s : Sizes) (entries : ℕ) (kinds operands : List ℕ) (wrongLength noRoom : Bool) where
   -- what the check of the sizes tells is a fault of the sizes
   pub ranges-fault : (r : Refusal) → checkRanges s entries ≡ Failed r → hasFault s entries kinds operands wrongLength noRoom r ≡ true
   ranges-fault r e = let found = ranges-failed s entries r e in rw (found .1 .0, found .1 .1)
 
+  -- a fault of an entry is one
+  entry-has : (r : Refusal) → entryHas s kinds operands (numberOf r) (placeOf r) ≡ true → hasFault s entries kinds operands wrongLength noRoom r ≡ true
+  entry-has (Size place) e = absurd (false≢true (sym (and-false (ltb place (length kinds))) ∙ e))
+  entry-has Short e = absurd (false≢true (sym (and-false (ltb 0 (length kinds))) ∙ e))
+  entry-has (Kind at) e = e
+  entry-has (Who at) e = e
+  entry-has Room e = absurd (false≢true (sym (and-false (ltb 0 (length kinds))) ∙ e))
+
   -- what the check of an entry tells is a fault of this entry, or that the operands end before it
   entry-fault : (r : Refusal) → ((at : ℕ) → at < length kinds → length operands ≤ at → wrongLength ≡ true)
-      → (at : ℕ) → at < length kinds → checkOf (entryAt (s .thieves) kinds operands at) ≡ Failed r
+      → (at : ℕ) → at < length kinds → checkOf (entryAt s kinds operands at) ≡ Failed r
       → hasFault s entries kinds operands wrongLength noRoom r ≡ true
-  entry-fault r ends at inside e =
-      go (ltb at (length operands)) (ltb 6 (getD kinds at 0)) (operandAllowed (s .thieves) (getD kinds at 0) (getD operands at 0)) refl refl refl
-      (sym (entryAt-check (s .thieves) kinds operands at inside) ∙ e)
+  entry-fault r ends at inside e = go (ltb at (length operands)) refl
     where
-      go : (there past allowed : Bool) → ltb at (length operands) ≡ there → ltb 6 (getD kinds at 0) ≡ past
-          → operandAllowed (s .thieves) (getD kinds at 0) (getD operands at 0) ≡ allowed
-          → cond there (cond past (Failed (Kind at)) (cond allowed Passed (Failed (Who at)))) (Failed Short) ≡ Failed r
-          → hasFault s entries kinds operands wrongLength noRoom r ≡ true
-      go true true allowed t p a told =
-          let same : r ≡ Kind at = cc in rw (same, lt-ltb at entries (omega arith), p)
-      go true false true t p a told = absurd (not-both (sym told))
-      go true false false t p a told =
-          let same : r ≡ Who at = cc in
-          rw (same, lt-ltb at entries (omega arith), le-leb (getD kinds at 0) 6 (ltb-false 6 (getD kinds at 0) p), a)
-      go false past allowed t p a told =
-          let same : r ≡ Short = cc in rw same (ends at inside (ltb-false at (length operands) t))
+      go : (there : Bool) → ltb at (length operands) ≡ there → hasFault s entries kinds operands wrongLength noRoom r ≡ true
+      go true p = entry-has r (entry-told s kinds operands at inside (ltb-true at (length operands) p) r e .0)
+      go false p =
+          let past = ltb-false at (length operands) p in
+          let told = sym e ∙ ap checkOf (entryAt-no-operand s kinds operands at inside past) in
+          let same : r ≡ Short = cc in
+          rw same (ends at inside past)
 
   pub entries-fault : (r : Refusal) → ((at : ℕ) → at < length kinds → length operands ≤ at → wrongLength ≡ true)
-      → checkEntries (s .thieves) kinds operands ≡ Failed r → hasFault s entries kinds operands wrongLength noRoom r ≡ true
+      → checkEntries s kinds operands ≡ Failed r → hasFault s entries kinds operands wrongLength noRoom r ≡ true
   entries-fault r ends e =
-      let found = range-failed (λ at. checkOf (entryAt (s .thieves) kinds operands at)) (length kinds) r e in
-      entry-fault r ends (found .0) (found .1 .0) (found .1 .1)
+      let found = range-failed (λ at. checkOf (entryAt s kinds operands at)) (length kinds) r e in
+      entry-fault r ends (found .0) (found .1 .0) (found .1 .1 .0)
 
   -- what passed every check has no fault
-  pub no-fault : checkRanges s entries ≡ Passed → wrongLength ≡ false → checkEntries (s .thieves) kinds operands ≡ Passed → noRoom ≡ false
-      → (r : Refusal) → hasFault s entries kinds operands wrongLength noRoom r ≡ false
-  no-fault ranges as-long each room (Size place) = rw (ranges-passed s entries ranges place)
-  no-fault ranges as-long each room Short = as-long
-  no-fault ranges as-long each room (Kind at) = go (ltb at entries) refl
-    where
-      go : (inside : Bool) → ltb at entries ≡ inside → (inside && ltb 6 (getD kinds at 0)) ≡ false
-      go true p =
-          let below : at < length kinds = omega (arith, ltb-true at entries p) in
-          entry-passed (s .thieves) kinds operands at below (entries-passed (s .thieves) kinds operands each at below) .0
-      go false p = refl
-  no-fault ranges as-long each room (Who at) = go (ltb at entries) refl
-    where
-      go : (inside : Bool) → ltb at entries ≡ inside
-          → (inside && (leb (getD kinds at 0) 6 && not (operandAllowed (s .thieves) (getD kinds at 0) (getD operands at 0)))) ≡ false
-      go true p =
-          let below : at < length kinds = omega (arith, ltb-true at entries p) in
-          let passed = entry-passed (s .thieves) kinds operands at below (entries-passed (s .thieves) kinds operands each at below) in
-          rw (le-leb (getD kinds at 0) 6 (ltb-false 6 (getD kinds at 0) (passed .0)), passed .1)
-      go false p = refl
-  no-fault ranges as-long each room Room = room
-
-  -- .. whatever the number and the place
-  pub no-fault-at : checkRanges s entries ≡ Passed → wrongLength ≡ false → checkEntries (s .thieves) kinds operands ≡ Passed → noRoom ≡ false
+  pub no-fault-at : checkRanges s entries ≡ Passed → wrongLength ≡ false → checkEntries s kinds operands ≡ Passed → noRoom ≡ false
       → (number place : ℕ) → faultAt s entries kinds operands wrongLength noRoom number place ≡ false
   no-fault-at ranges as-long each room number place =
-      let none : (r : Refusal) → hasFault s entries kinds operands wrongLength noRoom r ≡ false = no-fault ranges as-long each room in
-      either (λ b. b ≡ false) (eqb number 1) (none (Size place))
+      either (λ b. b ≡ false) (eqb number 1) (rw (ranges-passed s entries ranges place))
       (either (λ b. b ≡ false) (eqb number 2) (rw (as-long, and-false))
-      (either (λ b. b ≡ false) (eqb number 3) (none (Kind place))
-      (either (λ b. b ≡ false) (eqb number 4) (none (Who place))
-      (either (λ b. b ≡ false) (eqb number 8) (rw (room, and-false)) refl))))
+      (either (λ b. b ≡ false) (eqb number 8) (rw (room, and-false)) (none-faulty s kinds operands each number place)))
 
 -- ── The reader ──────────────────────────────────────────────────────────────────────────────────────────────────────────────
 
@@ -119,13 +93,13 @@ check-fault file r zero e =
     let found = failIf-failed (ltb (length file) 28) Short e in rw (found .1, found .0)
 check-fault file r (suc zero) e =
     let n = entriesIn file in
-    ranges-fault (sizesIn file) n (kindsIn n file) (operandsIn n file) (length-kindsIn n file) (wrong file) false r e
+    ranges-fault (sizesIn file) n (kindsIn n file) (operandsIn n file) (wrong file) false r e
 check-fault file r (suc (suc zero)) e =
     let found = failIf-failed (not (eqb (length file) (28 + 5 * entriesIn file))) Short e in
     rw (found .1) (or-right (ltb (length file) 28) (found .0))
 check-fault file r (suc (suc (suc zero))) e =
     let n = entriesIn file in
-    entries-fault (sizesIn file) n (kindsIn n file) (operandsIn n file) (length-kindsIn n file) (wrong file) false r
+    entries-fault (sizesIn file) n (kindsIn n file) (operandsIn n file) (wrong file) false r
     (λ at inside ends. absurd (omega (arith, length-kindsIn n file, length-operandsIn n file))) e
 check-fault file r (suc (suc (suc (suc i)))) e = absurd (not-both (sym e))
 
@@ -139,7 +113,7 @@ reader-refuses-faults file = go (reader.readFile file) refl
         let p = accepted-readable file s entries e .1 .1 in
         let there = le-ltb (length file) 28 (omega (arith, p .long)) in
         let as-long = or-neither there (ap not (eq-eqb (length file) (28 + 5 * n) (p .long))) in
-        no-fault-at (sizesIn file) n (kindsIn n file) (operandsIn n file) (length-kindsIn n file) (wrong file) false (p .ranges) as-long (p .each) refl
+        no-fault-at (sizesIn file) n (kindsIn n file) (operandsIn n file) (wrong file) false (p .ranges) as-long (p .each) refl
 
 -- what `read` promises, of the answer that it hands back
 pub read-promises : (file : List ℕ) (answer : Reading) → answer ≡ reader.readFile file

@@ -1,6 +1,7 @@
 pub mod Laws
 pub mod Edges
 pub mod Runs
+pub mod FirstFault
 pub mod Faults
 pub mod Parts
 pub mod Totals

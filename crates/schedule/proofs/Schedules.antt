@@ -1,24 +1,33 @@
--- What a run is (`specs/Run.antt`): one step after the other, over all entries of its file.
+-- What a run is (`specs/Run.antt`): one step after the other, over all entries of its file; and what comes of sizes and arrays that nobody has checked.
 use mathlib.Core.Path.{_≡_, refl, ap, sym, _∙_}
+use mathlib.Core.Bool.{Bool, true, false, _&&_}
 use mathlib.Core.List.{List, [], _∷_, _++_, map, map-append}
-use Prim.Native.Nat.{ℕ, zero, suc, _≤_}
+use Prim.Native.Nat.{ℕ, zero, suc, _≤_, _<_}
+use native.Mathlib.Nat.{le-of-suc-le-suc, not-suc-le-zero}
 use native.Mathlib.Numerals.{add-one}
 use native.Mathlib.Omega.{arith}
-use lib.ListN.{getD, length, take}
+use lib.Dec.{ltb}
+use lib.ListN.{getD, length, replicate, take}
 use lib.Seq.{take-length, take-suc}
+use borrow.Author.Tests.{le-ltb}
 use Rattle.terms.specs.Kinds.{kindOf, operandOf}
 use Rattle.terms.specs.Tally.{counted, noneCounted}
+use Rattle.machine.specs.InRange.{inRange}
 use Rattle.machine.specs.Machine.{fresh}
-use Rattle.machine.specs.Obey.{machineAfter, obey, outcomesOf}
-use Rattle.schedule.specs.Types.{Entry, Machine, Passed, Tally}
-use Rattle.schedule.specs.Entries.{checkEntries}
+use Rattle.machine.proofs.Laws.Obey.{out-of-range-waits}
+use Rattle.machine.specs.Obey.{machineAfter, obey, outcomesOf, thiefIsThere}
+use Rattle.machine.proofs.Laws.InRange.{bounds}
+use Rattle.terms.specs.Sizes.{sizesInRange}
+use Rattle.terms.specs.declared.outcome.Outcome.the-variants.{Moved, Wait}
+use Rattle.schedule.specs.Types.{Drain, Entry, Machine, Passed, Sizes, Tally, ThiefStep}
+use Rattle.schedule.specs.Entries.{checkEntries, entryToObey}
 use Rattle.schedule.specs.Format.{entriesIn, kindsIn, operandsIn, sizesIn}
-use Rattle.schedule.specs.Run.{RunBySteps, ScheduleOfFile, afterSteps, outcomesOfSteps}
+use Rattle.schedule.specs.Run.{AnyArraysObeyed, NoEntryWaits, RunBySteps, ScheduleOfFile, afterSteps, entriesOf, outcomesOfSteps}
 use Rattle.schedule.specs.Totals.{countedFrom}
 use Rattle.schedule.proofs.Laws.Entries.{entry-as-read, entryAt-both}
 use Rattle.schedule.proofs.Laws.Format.{length-kindsIn, length-operandsIn}
 use Rattle.schedule.proofs.Laws.Reader.{accepted-readable}
-use Rattle.schedule.proofs.Laws.Run.{all-allowed, entriesUpTo, entriesUpTo-more}
+use Rattle.schedule.proofs.Laws.Run.{all-allowed, entriesUpTo, entriesUpTo-more, entry-there, length-entriesUpTo, length-outcomesFrom}
 
 -- ── One step after the other ────────────────────────────────────────────────────────────────────────────────────────────────
 
@@ -33,24 +42,65 @@ steps-after m t (e ∷ es) = steps-after (obey m e .machine) (counted t (obey m 
 pub run-by-steps : RunBySteps
 run-by-steps s es = (steps-outcomes (fresh s) noneCounted es, steps-after (fresh s) noneCounted es)
 
+-- ── What nobody has checked ─────────────────────────────────────────────────────────────────────────────────────────────────
+
+-- a machine in range has at most eight thieves
+pub no-entry-waits : NoEntryWaits
+no-entry-waits m r = out-of-range-waits m (ThiefStep 4294967295) (go (inRange m) refl)
+  where
+    go : (b : Bool) → inRange m ≡ b → (b && ltb 4294967295 (m .sizes .thieves)) ≡ false
+    go true p = le-ltb 4294967295 (m .sizes .thieves) (omega (arith, bounds m p .sizes .thieves-most))
+    go false p = refl
+
+-- the outcome at a place is that of its entry on the machine that those before it left
+outcome-there : (m : Machine) (es : List Entry) (at : ℕ) → at < length es
+    → getD (outcomesOf m es) at Moved ≡ obey (machineAfter m (take at es)) (getD es at Drain) .outcome
+outcome-there m [] at inside = absurd (not-suc-le-zero inside)
+outcome-there m (e ∷ es) zero inside = refl
+outcome-there m (e ∷ es) (suc at) inside = outcome-there (obey m e .machine) es at (le-of-suc-le-suc inside)
+
+-- a machine out of range answers 7 to everything
+all-wait : (m : Machine) → inRange m ≡ false → (es : List Entry) → outcomesOf m es ≡ replicate (length es) Wait
+all-wait m out [] = refl
+all-wait m out (e ∷ es) =
+    let waits = out-of-range-waits m e (ap (λ b. b && thiefIsThere (m .sizes) e) out) in
+    (λ i. waits i .outcome ∷ outcomesOf (waits i .machine) es) ∙ ap (λ os. Wait ∷ os) (all-wait m out es)
+
+fresh-out : (s : Sizes) → sizesInRange s ≡ false → inRange (fresh s) ≡ false
+unfolding inRange
+fresh-out s out = rw out
+
+pub any-arrays-obeyed : AnyArraysObeyed
+any-arrays-obeyed s kinds operands =
+    let es = entriesOf s kinds operands in
+    let count = length-entriesUpTo s kinds operands (length kinds) in
+    record {
+      each = length-outcomesFrom s kinds operands;
+      no-entry = λ at r inside refused.
+          outcome-there (fresh s) es at (omega (arith, count))
+          ∙ ap (λ e. obey (machineAfter (fresh s) (take at es)) e .outcome) (entry-there s kinds operands at inside ∙ ap entryToObey refused)
+          ∙ ap (λ d. d .outcome) (no-entry-waits (machineAfter (fresh s) (take at es)) r);
+      out-of-range = λ out. all-wait (fresh s) (fresh-out s out) es ∙ ap (λ n. replicate n Wait) count;
+    }
+
 -- ── All entries of a file ───────────────────────────────────────────────────────────────────────────────────────────────────
 
-module _ (thieves : ℕ) (kinds operands : List ℕ) (parallel : length kinds ≡ length operands) (passed : checkEntries thieves kinds operands ≡ Passed) where
+module _ (s : Sizes) (kinds operands : List ℕ) (parallel : length kinds ≡ length operands) (passed : checkEntries s kinds operands ≡ Passed) where
   -- the entries at the first places have the kinds and the operands that stand there
   as-read : (n : ℕ) → n ≤ length kinds
-      → (map kindOf (entriesUpTo thieves kinds operands n) ≡ take n kinds) × (map operandOf (entriesUpTo thieves kinds operands n) ≡ take n operands)
+      → (map kindOf (entriesUpTo s kinds operands n) ≡ take n kinds) × (map operandOf (entriesUpTo s kinds operands n) ≡ take n operands)
   as-read zero inside = (refl, refl)
   as-read (suc n) inside =
-      let found = all-allowed thieves kinds operands passed n inside in
+      let found = all-allowed s kinds operands passed n inside in
       let before = as-read n (omega arith) in
-      let more = rw add-one at (entriesUpTo-more thieves kinds operands n (found .0) (found .1)) in
-      let read = entry-as-read thieves n (getD kinds n 0) (getD operands n 0) (found .0) (sym (entryAt-both thieves kinds operands n inside (omega arith)) ∙ found .1) in (
+      let more = rw add-one at (entriesUpTo-more s kinds operands n ∙ ap (λ m. entriesUpTo s kinds operands n ++ (entryToObey m ∷ [])) (found .1)) in
+      let read = entry-as-read (s .thieves) n (getD kinds n 0) (getD operands n 0) (found .0) (sym (entryAt-both s kinds operands n inside (omega arith)) ∙ found .1) in (
         ap (map kindOf) more
-            ∙ map-append kindOf (entriesUpTo thieves kinds operands n) (found .0 ∷ [])
+            ∙ map-append kindOf (entriesUpTo s kinds operands n) (found .0 ∷ [])
             ∙ (λ i. before .0 i ++ (read .0 i ∷ []))
             ∙ sym (take-suc kinds n 0 inside),
         ap (map operandOf) more
-            ∙ map-append operandOf (entriesUpTo thieves kinds operands n) (found .0 ∷ [])
+            ∙ map-append operandOf (entriesUpTo s kinds operands n) (found .0 ∷ [])
             ∙ (λ i. before .1 i ++ (read .1 i ∷ []))
             ∙ sym (take-suc operands n 0 (omega arith)),
       )
@@ -62,7 +112,7 @@ schedule-of-file file s n accepted =
     let kinds = kindsIn m file in
     let operands = operandsIn m file in
     let parallel : length kinds ≡ length operands = length-kindsIn m file ∙ sym (length-operandsIn m file) in
-    let all = as-read (sizesIn file .thieves) kinds operands parallel (read .1 .1 .each) (length kinds) (omega arith) in (
+    let all = as-read (sizesIn file) kinds operands parallel (read .1 .1 .each) (length kinds) (omega arith) in (
       all .0 ∙ take-length kinds ∙ ap (λ k. kindsIn k file) (sym (read .1 .0)),
       all .1 ∙ ap (λ k. take k operands) parallel ∙ take-length operands ∙ ap (λ k. operandsIn k file) (sym (read .1 .0)),
     )

@@ -1,18 +1,20 @@
 -- What the promises about schedule files say. Names in quotation marks are places of the scope paper, 01. The files stand in reading order; `readFile` in `Reader`
--- and `runFile` in `Run` are what `read` and `run` answer, `traceAfter` what lent memory holds afterwards. `layout` in `Format` is what the reader goes by, and the writer above it.
+-- and `runFile` in `Run` are what `read` and `run` answer, `traceAfter` what lent memory holds afterwards; `checkParts` in `Entries` and `outcomesFrom` in `Run` are what comes of decoded sizes and the two parts of a file. `layout` in `Format` is what the reader goes by, and the writer above it.
 --
 -- numbers in bytes                      Number, of `number`
 -- refusals, their numbers and places    Refusal, of `terms`
 -- checks in their order; SIZE           Check
 -- the layout of a file                  Format
 -- kinds, operands; KIND and WHO         Kinds, of `terms`
--- one entry, and the first faulty one   Entries
+-- one entry, the first faulty one, and
+-- the one to obey                       Entries
 -- reading: the order of its checks      Reader
 -- the three totals                      Tally, of `terms`; Totals
 -- the trace, and what stands in it      Trace
 -- running a file, and one step          Run
 -- demand 3 of a trace                   Demand3
--- what is refused, and for what         Faults
+-- what is refused, and for what; that
+-- the first faulty entry is told        Faults
 -- the parts of an accepted file         Parts
 -- files at their edges, as a table      Edges
 -- runs, as a table                      Runs

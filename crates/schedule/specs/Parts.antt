@@ -1,13 +1,15 @@
--- The parts and the entries of an accepted file. But for the operand part, nothing of this is a sentence of 01: it follows from "The schedule file". Proved in `proofs/Parts.antt`.
+-- The parts and the entries of a file, and that its check and its run go by decoded sizes and the two parts alone, as request 3 of 02 has it. But for the operand part, the rest is no sentence of 01: it follows from "The schedule file". Proved in `proofs/Parts.antt`.
 use mathlib.Core.Path.{_≡_}
-use mathlib.Core.List.{List}
-use Prim.Native.Nat.{ℕ, _+_, _<_}
-use lib.ListN.{getD}
+use mathlib.Core.List.{List, _++_}
+use Prim.Native.Nat.{ℕ, _+_, _*_, _<_}
+use lib.ListN.{getD, length, take}
 use Rattle.terms.specs.Kinds.{entryOf, kindOf, operandOf}
-use Rattle.schedule.specs.Types.{Accepted, Allowed, Entry, Sizes}
-use Rattle.schedule.specs.Entries.{entryAt}
-use Rattle.schedule.specs.Format.{kindsIn, operandsIn, wordsIn}
-use Rattle.schedule.specs.Reader.{kindPart, kindStart, operandPart, operandStart, readFile}
+use Rattle.schedule.specs.Types.{Accepted, Allowed, Entry, Passed, Sizes}
+use Rattle.schedule.specs.Check.{first}
+use Rattle.schedule.specs.Entries.{checkParts, entryAt}
+use Rattle.schedule.specs.Format.{entriesIn, kindsIn, operandsIn, sizesIn, wordsIn}
+use Rattle.schedule.specs.Reader.{kindPart, kindStart, operandPart, operandStart, readFile, readingOf, sizeChecks}
+use Rattle.schedule.specs.Run.{outcomesFrom, outcomesIn}
 
 -- an allowed entry has the kind and the operand that it was read from
 abbrev pub EntriesAsRead : Type 0
@@ -18,17 +20,32 @@ EntriesAsRead =
 -- an entry of an accepted file, looked up in the two parts that are handed back: it is allowed, and it has the kind and the operand that stand in the file
 pub record EntryOfFile (file : List ℕ) (s : Sizes) (entries at : ℕ) : Type 0 where
   pub entry : Entry
-  pub allowed : entryAt (s .thieves) (kindPart file) (wordsIn (operandPart file)) at ≡ Allowed entry
+  pub allowed : entryAt s (kindPart file (readFile file)) (wordsIn (operandPart file (readFile file))) at ≡ Allowed entry
   pub kind : kindOf entry ≡ getD (kindsIn entries file) at 0
   pub operand : operandOf entry ≡ getD (operandsIn entries file) at 0
 
--- the two parts that are handed back lie where they should and hold the two arrays, and every entry is allowed and stands as in the file
+-- the two parts that are handed back lie where they should, are all of the file behind its sizes and hold the two arrays, and every entry is allowed and stands as in the file
 pub record Parts (file : List ℕ) (s : Sizes) (entries : ℕ) : Type 0 where
-  pub kinds-start : kindStart file ≡ 28
-  pub operands-start : operandStart file ≡ 28 + entries
-  pub kinds : kindPart file ≡ kindsIn entries file
-  pub operands : wordsIn (operandPart file) ≡ operandsIn entries file
+  pub whole : take 28 file ++ (kindPart file (readFile file) ++ operandPart file (readFile file)) ≡ file
+  pub four-each : length (operandPart file (readFile file)) ≡ 4 * entries
+  pub kinds-start : kindStart file (readFile file) ≡ 28
+  pub operands-start : operandStart file (readFile file) ≡ 28 + entries
+  pub kinds : kindPart file (readFile file) ≡ kindsIn entries file
+  pub operands : wordsIn (operandPart file (readFile file)) ≡ operandsIn entries file
   pub each : (at : ℕ) → at < entries → EntryOfFile file s entries at
 
 abbrev pub PartsOfAccepted : Type 0
 PartsOfAccepted = (file : List ℕ) (s : Sizes) (entries : ℕ) → readFile file ≡ Accepted s entries → Parts file s entries
+
+-- Where sizes and length are right, the check of the two parts decides whether the file is read, and the refusal.
+abbrev pub ReadByParts : Type 0
+ReadByParts =
+    (file : List ℕ) → first (sizeChecks file) ≡ Passed
+    → let right = Accepted (sizesIn file) (entriesIn file) in
+    readFile file ≡ readingOf file (checkParts (sizesIn file) (kindPart file right) (operandPart file right))
+
+-- and a file that is read is run by its decoded sizes and its two parts
+abbrev pub RunByParts : Type 0
+RunByParts =
+    (file : List ℕ) (s : Sizes) (n : ℕ) → readFile file ≡ Accepted s n
+    → outcomesIn file ≡ outcomesFrom s (kindPart file (readFile file)) (wordsIn (operandPart file (readFile file)))

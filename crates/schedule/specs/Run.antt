@@ -1,25 +1,27 @@
 -- A file run, and one step of a run. Renders "Order" and "Trace", of "The numbers", as far as they are about a run, 8 ROOM, and the totals of "The program's lines".
 use mathlib.Core.Path.{_≡_}
-use mathlib.Core.Bool.{cond}
+use mathlib.Core.Bool.{cond, false}
 use mathlib.Core.List.{List, [], _∷_, map}
-use Prim.Native.Nat.{ℕ}
+use Prim.Native.Nat.{ℕ, _<_}
 use lib.Dec.{ltb}
-use lib.ListN.{length}
+use lib.ListN.{length, getD, replicate}
 use Rattle.terms.specs.declared.kinds.Meaning.the-variants as meaning
+use Rattle.terms.specs.declared.outcome.Outcome.the-variants.{Moved, Wait}
 use Rattle.terms.specs.Kinds.{kindOf, operandOf}
 use Rattle.terms.specs.Tally.{counted, noneCounted}
-use Rattle.terms.specs.Lists.{concatMap, range}
-use Rattle.machine.specs.Machine.{fresh}
+use Rattle.terms.specs.Lists.{range}
+use Rattle.terms.specs.Sizes.{sizesInRange}
+use Rattle.machine.specs.Machine.{done, fresh}
 use Rattle.machine.specs.Obey.{machineAfter, obey, outcomesOf}
-use Rattle.schedule.specs.Types.{Accepted, Allowed, Entry, Machine, Meaning, Outcome, Ran, Reading, Room, Running, Sizes, Stepped, Tally}
+use Rattle.schedule.specs.Types.{Accepted, Entry, Machine, Outcome, Ran, Reading, Refusal, Room, Running, Sizes, Stepped, Tally}
 use Rattle.schedule.specs.declared.reader.Reading.the-variants as reading
 use Rattle.schedule.specs.declared.runner.Running.the-variants as running
-use Rattle.schedule.specs.Entries.{entryAt}
+use Rattle.schedule.specs.Entries.{entryAt, entryToObey}
 use Rattle.schedule.specs.Format.{entriesIn, kindsIn, operandsIn, sizesIn}
 use Rattle.number.specs.Number.{overwritten}
 use Rattle.schedule.specs.Reader.{readFile}
 use Rattle.schedule.specs.Totals.{tallyOf}
-use Rattle.schedule.specs.Trace.{traceLength, traceOf}
+use Rattle.schedule.specs.Trace.{traceFits, traceLength, traceOf}
 
 -- ── One step ────────────────────────────────────────────────────────────────────────────────────────────────────────────────
 
@@ -38,22 +40,25 @@ afterSteps m t (e ∷ es) = afterSteps (stepped m t e .machine) (stepped m t e .
 
 -- ── What a file has the machine do ──────────────────────────────────────────────────────────────────────────────────────────
 
--- the entry that is meant, in a list of at most one
-abbrev pub entryMeant : Meaning → List Entry
-entryMeant (Allowed e) = e ∷ []
-entryMeant (meaning.Refused r) = []
+-- the entries of two arrays, a kind and an operand each, in their order
+abbrev pub entriesOf : Sizes → List ℕ → List ℕ → List Entry
+entriesOf s kinds operands = map (λ at. entryToObey (entryAt s kinds operands at)) (range (length kinds))
 
--- the entries of two parallel arrays, in their order
-abbrev pub entriesOf : ℕ → List ℕ → List ℕ → List Entry
-entriesOf thieves kinds operands = concatMap (λ at. entryMeant (entryAt thieves kinds operands at)) (range (length kinds))
+-- their outcomes, obeyed one by one from the fresh machine; `AnyArraysObeyed`, below, says what comes of sizes and arrays that are not checked
+abbrev pub outcomesFrom : Sizes → List ℕ → List ℕ → List Outcome
+outcomesFrom s kinds operands = outcomesOf (fresh s) (entriesOf s kinds operands)
 
--- the entries of a file
+-- the entries of a file, and their outcomes
+
 abbrev pub scheduleIn : List ℕ → List Entry
-scheduleIn file = entriesOf (sizesIn file .thieves) (kindsIn (entriesIn file) file) (operandsIn (entriesIn file) file)
+scheduleIn file = entriesOf (sizesIn file) (kindsIn (entriesIn file) file) (operandsIn (entriesIn file) file)
 
--- their outcomes, obeyed one by one from the fresh machine
 abbrev pub outcomesIn : List ℕ → List Outcome
 outcomesIn file = outcomesOf (fresh (sizesIn file)) (scheduleIn file)
+
+-- a buffer into which the trace of these outcomes is put: at its front, if it fits; else it stays as it was
+abbrev pub tracePut : List Outcome → List ℕ → List ℕ
+tracePut os buffer = cond (traceFits (length os) (length buffer)) (overwritten 0 (traceOf os) buffer) buffer
 
 -- ── A run ───────────────────────────────────────────────────────────────────────────────────────────────────────────────────
 
@@ -82,6 +87,19 @@ RunBySteps =
     (s : Sizes) (es : List Entry)
     → (outcomesOfSteps (fresh s) noneCounted es ≡ outcomesOf (fresh s) es)
     × (afterSteps (fresh s) noneCounted es ≡ (machineAfter (fresh s) es, tallyOf (outcomesOf (fresh s) es)))
+
+-- where no entry is allowed, every machine answers 7 and stays as it is
+abbrev pub NoEntryWaits : Type 0
+NoEntryWaits = (m : Machine) (r : Refusal) → obey m (entryToObey (meaning.Refused r)) ≡ done Wait m
+
+-- sizes and arrays that are not checked: each place has its outcome, 7 where no entry is allowed, and 7 everywhere if a size is out of range
+pub record AnyArrays (s : Sizes) (kinds operands : List ℕ) : Type 0 where
+  pub each : length (outcomesFrom s kinds operands) ≡ length kinds
+  pub no-entry : (at : ℕ) (r : Refusal) → at < length kinds → entryAt s kinds operands at ≡ meaning.Refused r → getD (outcomesFrom s kinds operands) at Moved ≡ Wait
+  pub out-of-range : sizesInRange s ≡ false → outcomesFrom s kinds operands ≡ replicate (length kinds) Wait
+
+abbrev pub AnyArraysObeyed : Type 0
+AnyArraysObeyed = (s : Sizes) (kinds operands : List ℕ) → AnyArrays s kinds operands
 
 -- the entries of an accepted file are all of it: their kinds and operands are its arrays
 abbrev pub ScheduleOfFile : Type 0

@@ -1,5 +1,5 @@
--- Runs, as one table over the definitions: the example of "The program's lines", the last line of "Rehearsals" with its trace, M2 and M3 as traces, every outcome in the bytes of a trace, rooms one byte short, refusals in their order, and each outcome counted, also at the largest total. `proofs/Runs.antt` proves one fact: every row holds.
-use mathlib.Core.Bool.{Bool, false, _&&_}
+-- Runs, as one table over the definitions: the example of "The program's lines", the last line of "Rehearsals" with its trace, M2 and M3 as traces, every outcome in the bytes of a trace, rooms one byte short, refusals in their order, parts that nobody has checked, and each outcome counted, also at the largest total. `proofs/Runs.antt` proves one fact: every row holds.
+use mathlib.Core.Bool.{Bool, true, false, not, _&&_}
 use mathlib.Core.List.{List, [], _∷_, _++_, map}
 use Prim.Native.Nat.{ℕ}
 use lib.Dec.{eqb}
@@ -16,8 +16,10 @@ use Rattle.terms.specs.Sizes.{sized}
 use Rattle.terms.specs.Refusal.{refusedBy}
 use Rattle.schedule.specs.Edges.{exampleFile, fileWith}
 use Rattle.terms.specs.Kinds.{kindOf, operandOf}
-use Rattle.schedule.specs.Format.{fileOf}
-use Rattle.schedule.specs.Run.{afterSteps, outcomesOfSteps, runFile, traceAfter}
+use Rattle.schedule.specs.Format.{fileOf, wordsIn}
+use Rattle.schedule.specs.Run.{afterSteps, outcomesFrom, outcomesOfSteps, runFile, traceAfter, tracePut}
+use Rattle.schedule.specs.Totals.{tallyOf}
+use Rattle.schedule.specs.Trace.{traceFits}
 
 -- ── Rows ────────────────────────────────────────────────────────────────────────────────────────────────────────────────────
 
@@ -26,6 +28,10 @@ pub data Row : Type 0 where
   runs : (file : List ℕ) (room : ℕ) (after : List ℕ) (given aborts waits : ℕ) → Row
   -- a file that is not run, with number and place; the buffer, of so many bytes, holds what it held
   declines : (file : List ℕ) (room number place : ℕ) → Row
+  -- sizes, kinds and operands' bytes that are obeyed without a check: what the buffer holds afterwards, and the totals
+  obeys : Sizes → (kinds operands : List ℕ) (room : ℕ) (after : List ℕ) (given aborts waits : ℕ) → Row
+  -- a trace of so many entries, and whether it fits so many bytes
+  fits : (entries room : ℕ) → Bool → Row
   -- steps from the fresh machine and these totals: the outcomes' numbers, and the totals afterwards
   steps : Sizes → Tally → List Entry → (numbers : List ℕ) → Tally → Row
   -- totals with one outcome more
@@ -53,6 +59,11 @@ abbrev pub holds : Row → Bool
 holds (runs file room after given aborts waits) =
     isRun given aborts waits (runFile file room) && equal (traceAfter file (before room)) after
 holds (declines file room number place) = isNotRun number place (runFile file room) && equal (traceAfter file (before room)) (before room)
+holds (obeys s kinds operands room after given aborts waits) =
+    let os = outcomesFrom s kinds (wordsIn operands) in
+    equalTotals (tallyOf os) (totals given aborts waits) && equal (tracePut os (before room)) after
+holds (fits entries room true) = traceFits entries room
+holds (fits entries room false) = not (traceFits entries room)
 holds (steps s t es numbers after) =
     equal (map numberOf (outcomesOfSteps (fresh s) t es)) numbers && equalTotals (afterSteps (fresh s) t es .1) after
 holds (counts t o after) = equalTotals (counted t o) after
@@ -145,12 +156,30 @@ ranRows =
     ∷ declines (fileWith (sized 4 1 0 1 1 0) (7 ∷ []) (0 ∷ [])) 9 3 0
     ∷ []
 
+-- Parts that nobody has checked: a byte that is no kind, too few operands, too many, sizes out of range; a trace that does not fit, of which nothing is put. The
+-- longest trace just fits, and one of more entries never does.
+abbrev pub obeyedRows : List Row
+obeyedRows =
+    obeys (sized 4 1 0 1 1 0) (1 ∷ 7 ∷ 0 ∷ []) (replicate 12 0) 19 ((3 ∷ 0 ∷ 0 ∷ 0 ∷ []) ++ (0 ∷ 7 ∷ 0 ∷ []) ++ noTask 3) 0 0 1
+    ∷ obeys (sized 4 1 0 1 1 0) (1 ∷ 0 ∷ []) (replicate 4 0) 14 ((2 ∷ 0 ∷ 0 ∷ 0 ∷ []) ++ (0 ∷ 7 ∷ []) ++ noTask 2) 0 0 1
+    ∷ obeys (sized 4 1 0 1 1 0) (1 ∷ []) (replicate 8 0) 10 ((1 ∷ 0 ∷ 0 ∷ 0 ∷ []) ++ (0 ∷ []) ++ noTask 1 ++ before 1) 0 0 0
+    ∷ obeys (sized 4 65 0 1 1 0) (1 ∷ []) (replicate 4 0) 9 ((1 ∷ 0 ∷ 0 ∷ 0 ∷ []) ++ (7 ∷ []) ++ noTask 1) 0 0 1
+    ∷ obeys (sized 4 1 0 1 1 0) (0 ∷ []) (replicate 4 0) 8 (before 8) 0 0 1
+    ∷ obeys (sized 4 1 0 1 1 0) (0 ∷ []) (replicate 4 0) 0 [] 0 0 1
+    ∷ fits 4096 20484 true
+    ∷ fits 4096 20483 false
+    ∷ fits 4097 20489 false
+    ∷ fits 0 4 true
+    ∷ fits 0 3 false
+    ∷ []
+
 -- steps with totals that are not none, also at their largest, and each outcome counted
 abbrev pub countedRows : List Row
 countedRows =
     steps (sized 4 1 0 1 1 0) (totals 5 6 8) (Drain ∷ steal 0) (7 ∷ 0 ∷ 0 ∷ 0 ∷ 0 ∷ 0 ∷ 0 ∷ 19 ∷ []) (totals 5 7 9)
     ∷ steps (sized 4 2 0 2 1 0) (totals 4294967294 6 4294967295) (put 7 ++ drains ++ take ++ (WorkerStep ∷ Drain ∷ Drain ∷ []))
     (0 ∷ 0 ∷ 0 ∷ 16 ∷ 0 ∷ 0 ∷ 0 ∷ 0 ∷ 0 ∷ 17 ∷ 5 ∷ 0 ∷ 7 ∷ []) (totals 4294967295 6 4294967295)
+    ∷ steps (sized 4 65 0 1 1 0) (totals 5 6 8) (Drain ∷ BeginTake ∷ []) (7 ∷ 7 ∷ []) (totals 5 6 10)
     ∷ counts (totals 5 6 8) (Task 3) (totals 6 6 8)
     ∷ counts (totals 5 6 8) Abort (totals 5 7 8)
     ∷ counts (totals 5 6 8) Wait (totals 5 6 9)
@@ -168,4 +197,4 @@ countedRows =
     ∷ []
 
 abbrev pub table : List Row
-table = ranRows ++ countedRows
+table = ranRows ++ obeyedRows ++ countedRows

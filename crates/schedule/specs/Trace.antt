@@ -1,7 +1,9 @@
 -- The trace of a run. Renders "Trace", of "The numbers". `traceLayout` gives each number of a trace its width; `traceOf` encodes by it, and `lineIn` decodes by it.
 use mathlib.Core.Path.{_≡_}
+use mathlib.Core.Bool.{Bool, _&&_}
 use mathlib.Core.List.{List, _∷_, _++_, map}
 use Prim.Native.Nat.{ℕ, _+_, _*_}
+use lib.Dec.{leb}
 use lib.ListN.{length, getD}
 use Rattle.terms.specs.Outcome.{numberOf, valueOf}
 use Rattle.schedule.specs.Types.{Outcome}
@@ -14,6 +16,10 @@ traceLayout entries = 4 ∷ arrays entries
 -- how many bytes the trace of so many entries has
 abbrev pub traceLength : ℕ → ℕ
 traceLength entries = 4 + 5 * entries
+
+-- whether the trace of so many entries fits a buffer of so many bytes. There are traces of at most 4,096 entries, as there are files of no more.
+abbrev pub traceFits : ℕ → ℕ → Bool
+traceFits entries room = leb entries 4096 && leb (traceLength entries) room
 
 -- the trace of a run with these outcomes
 abbrev pub traceOf : List Outcome → List ℕ

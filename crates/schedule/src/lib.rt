@@ -2,12 +2,16 @@
 //
 // A schedule is six sizes, which set up a machine, and a list of entries for it to obey. Its file is bytes that anybody may
 // have made, so nothing is believed of them: `read` answers the sizes and the number of entries, or a refusal that says
-// which rule is broken and where. Only a file that is read as a whole goes on; its kinds and its operands are then parts of
-// the same bytes, and nothing is copied.
+// which rule is broken and where. Only a file that is read as a whole goes on, and there is one way through it:
 //
-// `run` obeys every entry of a file from the fresh machine and writes the trace into memory that the caller lends, of which a
-// refusal touches nothing; it tells the totals. With enough margin the answers in that trace are those of a plain queue, and its
-// promise says so (`specs/Demand3.antt`). `step` is one entry of a run, to watch.
+//     read             its sizes are decoded, and its entries checked by these (`check_entries`): each once
+//     kind_part,       its kinds and its operands, parts of the same bytes, so that nothing is copied
+//       operand_part
+//     obey_entries     from the sizes and the two parts: the totals, and the trace, if it fits the memory that is lent for it
+//
+// `run` goes that way, and so do the libraries above that run files. It obeys nothing, and touches nothing of the memory that the caller lends
+// for the trace, unless the file is read and the trace fits. With enough margin the answers in that trace are those of a plain queue, and its
+// promise says so (`specs/Demand3.antt`). `step` is one entry of a run, to watch; `entry_at` is the entry to hand it.
 //
 // The reader goes by one layout (`specs/Format.antt`), and so does the writer, the library `writer`, which shares the check of the
 // sizes and the lengths of a file's parts. Sizes, entries with their kinds, outcomes, refusals and totals are those of the
@@ -15,9 +19,9 @@
 //
 // - `check`: the answer of a check, and the check of the sizes;
 // - `layout`: the lengths of a file's parts, and of the longest trace;
-// - `entries`: one entry, and the first faulty one;
-// - `reader`: a file as a whole;
-// - `runner`: one step, and a run with its trace.
+// - `entries`: the first faulty entry, and the entry to obey;
+// - `reader`: a file as a whole, and its two parts;
+// - `runner`: one step, the entries of two parts, and a file run with its trace.
 mod check;
 mod entries;
 mod layout;
@@ -26,6 +30,7 @@ mod runner;
 
 pub use check::Check;
 pub use check::check_ranges;
+pub use entries::check_entries;
 pub use entries::entry_at;
 pub use layout::ENTRY_BYTES;
 pub use layout::LONGEST_TRACE;
@@ -37,5 +42,6 @@ pub use reader::read;
 pub use reader::refusal_of;
 pub use runner::Running;
 pub use runner::Stepped;
+pub use runner::obey_entries;
 pub use runner::run;
 pub use runner::step;

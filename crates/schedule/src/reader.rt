@@ -1,13 +1,15 @@
 ghost use mathlib.Core.Path.{_≡_};
-ghost use Prim.Native.Nat.{_≤_};
+ghost use Prim.Native.Nat.{_+_, _≤_};
+ghost use lib.Dec.{leb};
 ghost use lib.ListN.{length};
 ghost use Rattle.terms.specs.Refusal.{Refuses};
+ghost use Rattle.schedule.specs.Check.{first};
 ghost use Rattle.schedule.specs.Faults.{fileHas, refusalInReading};
 ghost use Rattle.schedule.specs.Format.{sizesIn};
-ghost use Rattle.schedule.specs.Reader.{behind, kindPart, kindStart, operandPart, operandStart, readFile, refusalOf};
+ghost use Rattle.schedule.specs.Reader.{behind, kindPart, kindStart, operandPart, operandStart, readFile, readingOf, refusalOf, sizeChecks};
 use crate::check::Check;
 use crate::check::check_ranges;
-use crate::entries::check_part;
+use crate::entries::check_entries;
 use crate::layout::ENTRY_BYTES;
 use crate::layout::SIZES_BYTES;
 use number::word_at;
@@ -37,10 +39,9 @@ fn sizes_in(file: &[u8]) -> Sizes
     }
 }
 
-// Reads a schedule file. The sizes are looked at before the length as a whole, since they say how long the file should be.
-pub fn read(file: &[u8]) -> Reading
-    ensures { λ r. ⌜ r ≡ readFile (now (file .entry)) ⌝ }
-    ensures { λ r. ⌜ Refuses (fileHas (now (file .entry))) (refusalInReading r) ⌝ }
+// Decodes the sizes, and checks them and the length that they ask for: all that is looked at before the entries.
+fn read_sizes(file: &[u8]) -> Reading
+    ensures { λ r. ⌜ r ≡ readingOf (now (file .entry)) (first (sizeChecks (now (file .entry)))) ⌝ }
 {
     if file.len() < SIZES_BYTES {
         return Reading::Refused(Refusal::Short);
@@ -54,48 +55,71 @@ pub fn read(file: &[u8]) -> Reading
     if file.len() != SIZES_BYTES + ENTRY_BYTES * entries {
         return Reading::Refused(Refusal::Short);
     }
-    let operands = SIZES_BYTES + entries;
-    let steps = check_part(
-        sizes.thieves,
-        &file[SIZES_BYTES..operands],
-        &file[operands..],
-    );
-    match steps {
-        Check::Passed => Reading::Accepted(sizes, entries),
+    Reading::Accepted(sizes, entries)
+}
+
+// Reads a schedule file: its sizes, and then its entries by these.
+pub fn read(file: &[u8]) -> Reading
+    ensures { λ r. ⌜ r ≡ readFile (now (file .entry)) ⌝ }
+    ensures { λ r. ⌜ Refuses (fileHas (now (file .entry))) (refusalInReading r) ⌝ }
+{
+    let reading = read_sizes(file);
+    let Reading::Accepted(sizes, _) = reading else {
+        return reading;
+    };
+    let kinds = kind_part(file, reading);
+    let operands = operand_part(file, reading);
+    let checked = check_entries(sizes, kinds, operands);
+    match checked {
+        Check::Passed => reading,
         Check::Failed(refusal) => Reading::Refused(refusal),
     }
 }
 
-// The refusal that a reading is. An accepted file has none, and nobody asks for it.
+// Why nothing comes of a file: its own refusal or, of an accepted one, ROOM.
 pub fn refusal_of(reading: Reading) -> Refusal
     ensures { λ r. ⌜ r ≡ refusalOf reading ⌝ }
 {
     match reading {
-        Reading::Accepted(_, _) => Refusal::Short,
+        Reading::Accepted(_, _) => Refusal::Room,
         Reading::Refused(refusal) => refusal,
     }
 }
 
-// The part of a file that its kinds are, one byte each; an empty part, if the file is refused.
-pub fn kind_part(file: &[u8]) -> &[u8]
-    ensures { λ r. ⌜ now r ≡ kindPart (now (file .entry)) ⌝ }
-    ensures { λ r. ⌜ r .ptr ≡ behind (kindStart (now (file .entry))) (file .entry .ptr) ⌝ }
+// Whether so many kinds lie in a file of so many bytes.
+fn holds_kinds(bytes: usize, entries: usize) -> bool
+    ensures { λ r. ⌜ r ≡ leb (28 + entries) bytes ⌝ }
 {
-    let reading = read(file);
+    if bytes < SIZES_BYTES {
+        return false;
+    }
+    entries <= bytes - SIZES_BYTES
+}
+
+// The part of a file that its kinds are, one byte each, by what reading it answered; an empty part, if it is refused.
+pub fn kind_part(file: &[u8], reading: Reading) -> &[u8]
+    ensures { λ r. ⌜ now r ≡ kindPart (now (file .entry)) reading ⌝ }
+    ensures { λ r. ⌜ r .ptr ≡ behind (kindStart (now (file .entry)) reading) (file .entry .ptr) ⌝ }
+{
     let Reading::Accepted(_, entries) = reading else {
         return &file[..0];
     };
+    if !holds_kinds(file.len(), entries) {
+        return &file[..0];
+    }
     &file[SIZES_BYTES..SIZES_BYTES + entries]
 }
 
-// The part of a file that its operands are, four bytes each, to the end; an empty part, if the file is refused.
-pub fn operand_part(file: &[u8]) -> &[u8]
-    ensures { λ r. ⌜ now r ≡ operandPart (now (file .entry)) ⌝ }
-    ensures { λ r. ⌜ r .ptr ≡ behind (operandStart (now (file .entry))) (file .entry .ptr) ⌝ }
+// The part of a file that its operands are, four bytes each, to the end, by what reading it answered; an empty part, if it is refused.
+pub fn operand_part(file: &[u8], reading: Reading) -> &[u8]
+    ensures { λ r. ⌜ now r ≡ operandPart (now (file .entry)) reading ⌝ }
+    ensures { λ r. ⌜ r .ptr ≡ behind (operandStart (now (file .entry)) reading) (file .entry .ptr) ⌝ }
 {
-    let reading = read(file);
     let Reading::Accepted(_, entries) = reading else {
         return &file[..0];
     };
+    if !holds_kinds(file.len(), entries) {
+        return &file[..0];
+    }
     &file[SIZES_BYTES + entries..]
 }

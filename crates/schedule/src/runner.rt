@@ -1,31 +1,28 @@
 ghost use mathlib.Core.Path.{_≡_};
+ghost use mathlib.Core.Bool.{cond};
 ghost use mathlib.Core.List.{[], _∷_};
-ghost use Prim.Native.Nat.{_+_, _*_, _≤_, _<_};
+ghost use Prim.Native.Nat.{_+_, _*_, _<_};
 ghost use lib.ListN.{length};
-ghost use Rattle.machine.specs.Machine.{fresh};
 ghost use Rattle.machine.specs.Obey.{outcomesOf};
+ghost use Rattle.number.specs.Number.{littleEndian, overwritten};
 ghost use Rattle.terms.specs.Outcome.{numberOf, valueOf};
-ghost use Rattle.schedule.specs.Demand3.{RunLinearizes};
-ghost use Rattle.schedule.specs.Entries.{checkEntries};
 ghost use Rattle.terms.specs.Refusal.{Refuses};
+ghost use Rattle.schedule.specs.Demand3.{RunLinearizes};
 ghost use Rattle.schedule.specs.Faults.{refusalInRunning, runHas};
 ghost use Rattle.schedule.specs.Format.{wordsIn};
-ghost use Rattle.number.specs.Number.{littleEndian, overwritten};
-ghost use Rattle.schedule.specs.Reader.{readFile};
-ghost use Rattle.schedule.specs.Run.{entriesOf, outcomesIn, runFile, stepped, traceAfter};
+ghost use Rattle.schedule.specs.Run.{entriesOf, outcomesFrom, runFile, stepped, traceAfter, tracePut};
 ghost use Rattle.schedule.specs.Totals.{tallyOf};
-ghost use Rattle.schedule.specs.Trace.{traceOf};
-ghost use Rattle.schedule.specs.Types.{Accepted, Passed};
+ghost use Rattle.schedule.specs.Trace.{traceFits};
 use crate::entries::entry_at;
 use crate::layout::ENTRY_BYTES;
-use crate::layout::SIZES_BYTES;
 use crate::reader::Reading;
+use crate::reader::kind_part;
+use crate::reader::operand_part;
 use crate::reader::read;
 use crate::reader::refusal_of;
 use machine::Machine;
 use number::put_word;
 use terms::Entry;
-use terms::Meaning;
 use terms::Outcome;
 use terms::Refusal;
 use terms::Sizes;
@@ -64,34 +61,50 @@ pub fn step(machine: Machine, tally: Tally, entry: Entry) -> Stepped
     }
 }
 
-// Puts the outcome of an entry into the trace of so many, its number into one part and its value into the other.
-fn put_outcome(trace: &mut [u8], entries: usize, at: usize, outcome: Outcome)
-    requires { ⌜ (at < entries) × (4 + 5 * entries ≤ length (now trace)) × (entries ≤ 4096) ⌝ }
-    ensures { λ _. ⌜ now (trace .exit) ≡ overwritten (4 + entries + 4 * at) (littleEndian 4 (valueOf outcome)) (overwritten (4 + at) (numberOf outcome ∷ []) (now (trace .entry))) ⌝ }
+// Whether the trace of so many entries fits a buffer of so many bytes.
+fn trace_fits(entries: usize, room: usize) -> bool
+    ensures { λ r. ⌜ r ≡ traceFits entries room ⌝ }
 {
-    let number = outcome.number();
-    let value = outcome.value();
-    trace[4 + at] = number;
-    put_word(trace, 4 + entries + 4 * at, value);
+    if entries > 4096 {
+        return false;
+    }
+    4 + ENTRY_BYTES * entries <= room
 }
 
-// Obeys the entries of the two parts of a file, all of them allowed, from the fresh machine, and writes the trace.
-fn obey_all(sizes: Sizes, kinds: &[u8], operands: &[u8], trace: &mut [u8]) -> Tally
-    requires { ⌜ (length (now kinds) ≤ 4096) × (length (now operands) ≡ 4 * length (now kinds)) × (4 + 5 * length (now kinds) ≤ length (now trace)) ⌝ }
-    requires { ⌜ checkEntries (sizes .thieves) (now kinds) (wordsIn (now operands)) ≡ Passed ⌝ }
-    ensures { λ r. ⌜ r ≡ tallyOf (outcomesOf (fresh sizes) (entriesOf (sizes .thieves) (now (kinds .entry)) (wordsIn (now (operands .entry))))) ⌝ }
-    ensures { λ _. ⌜ now (trace .exit) ≡ overwritten 0 (traceOf (outcomesOf (fresh sizes) (entriesOf (sizes .thieves) (now (kinds .entry)) (wordsIn (now (operands .entry)))))) (now (trace .entry)) ⌝ }
+// Puts the outcome of an entry into the trace of so many, if that fits: its number into one part, and its value into the other.
+fn put_outcome(trace: &mut [u8], entries: usize, at: usize, outcome: Outcome)
+    requires { ⌜ at < entries ⌝ }
+    ensures { λ _. ⌜ now (trace .exit) ≡ cond (traceFits entries (length (now (trace .entry)))) (overwritten (4 + entries + 4 * at) (littleEndian 4 (valueOf outcome)) (overwritten (4 + at) (numberOf outcome ∷ []) (now (trace .entry)))) (now (trace .entry)) ⌝ }
+{
+    if trace_fits(entries, trace.len()) {
+        let number = outcome.number();
+        let value = outcome.value();
+        trace[4 + at] = number;
+        put_word(trace, 4 + entries + 4 * at, value);
+    }
+}
+
+// Puts the number of entries into their trace, if that fits.
+fn put_count(trace: &mut [u8], entries: usize)
+    ensures { λ _. ⌜ now (trace .exit) ≡ cond (traceFits entries (length (now (trace .entry)))) (overwritten 0 (littleEndian 4 entries) (now (trace .entry))) (now (trace .entry)) ⌝ }
+{
+    if trace_fits(entries, trace.len()) {
+        put_word(trace, 0, entries as u32);
+    }
+}
+
+// Obeys the entries of the two parts of a file, from a machine with the file's sizes, and tells the totals. It puts the trace into a buffer, if it fits there; else the
+// buffer stays as it was.
+fn obey_from(mut machine: Machine, kinds: &[u8], operands: &[u8], trace: &mut [u8]) -> Tally
+    ensures { λ r. ⌜ r ≡ tallyOf (outcomesOf machine (entriesOf (machine .sizes) (now (kinds .entry)) (wordsIn (now (operands .entry))))) ⌝ }
+    ensures { λ _. ⌜ now (trace .exit) ≡ tracePut (outcomesOf machine (entriesOf (machine .sizes) (now (kinds .entry)) (wordsIn (now (operands .entry))))) (now (trace .entry)) ⌝ }
 {
     let entries = kinds.len();
-    let mut machine = Machine::fresh(sizes);
+    let sizes = machine.sizes;
     let mut tally = Tally::none();
     let mut at = 0;
     while at < entries {
-        let meaning = entry_at(sizes.thieves, kinds, operands, at);
-        let Meaning::Allowed(entry) = meaning else {
-            // Not reached: all of them are allowed.
-            return tally;
-        };
+        let entry = entry_at(sizes, kinds, operands, at);
         let done = machine.obey(entry);
         let outcome = done.outcome;
         machine = done.machine;
@@ -99,23 +112,17 @@ fn obey_all(sizes: Sizes, kinds: &[u8], operands: &[u8], trace: &mut [u8]) -> Ta
         put_outcome(trace, entries, at, outcome);
         at += 1;
     }
-    put_word(trace, 0, entries as u32);
+    put_count(trace, entries);
     tally
 }
 
-// Obeys the entries of a file that was read, and writes the trace.
-fn obey_file(file: &[u8], sizes: Sizes, entries: usize, trace: &mut [u8]) -> Tally
-    requires { ⌜ (readFile (now file) ≡ Accepted sizes entries) × (4 + 5 * entries ≤ length (now trace)) ⌝ }
-    ensures { λ r. ⌜ r ≡ tallyOf (outcomesIn (now (file .entry))) ⌝ }
-    ensures { λ _. ⌜ now (trace .exit) ≡ overwritten 0 (traceOf (outcomesIn (now (file .entry)))) (now (trace .entry)) ⌝ }
+// Obeys the entries of the two parts of a file, from the fresh machine with these sizes. Whoever runs a file that was read, runs it by this function, with a buffer
+// for the trace or with none. It checks nothing: with sizes out of range every outcome is 7, and so is that of a place with no allowed entry.
+pub fn obey_entries(sizes: Sizes, kinds: &[u8], operands: &[u8], trace: &mut [u8]) -> Tally
+    ensures { λ r. ⌜ r ≡ tallyOf (outcomesFrom sizes (now (kinds .entry)) (wordsIn (now (operands .entry)))) ⌝ }
+    ensures { λ _. ⌜ now (trace .exit) ≡ tracePut (outcomesFrom sizes (now (kinds .entry)) (wordsIn (now (operands .entry)))) (now (trace .entry)) ⌝ }
 {
-    let operands = SIZES_BYTES + entries;
-    obey_all(
-        sizes,
-        &file[SIZES_BYTES..operands],
-        &file[operands..],
-        trace,
-    )
+    obey_from(Machine::fresh(sizes), kinds, operands, trace)
 }
 
 // Runs a schedule file and writes the trace into a buffer. Nothing is obeyed and nothing written before the whole file is read and the
@@ -130,8 +137,10 @@ pub fn run(file: &[u8], trace: &mut [u8]) -> Running
     let Reading::Accepted(sizes, entries) = reading else {
         return Running::Refused(refusal_of(reading));
     };
-    if trace.len() < 4 + ENTRY_BYTES * entries {
+    if !trace_fits(entries, trace.len()) {
         return Running::Refused(Refusal::Room);
     }
-    Running::Ran(obey_file(file, sizes, entries, trace))
+    let kinds = kind_part(file, reading);
+    let operands = operand_part(file, reading);
+    Running::Ran(obey_entries(sizes, kinds, operands, trace))
 }

@@ -21,11 +21,11 @@ module _ (s : Sizes) (kinds operands : List ℕ) (room : ℕ) (r : Refusal) wher
   -- whatever a check failed with is a fault that there is
   writing-fault : (i : ℕ) → getD (writer.writingChecks s kinds operands room) i Passed ≡ Failed r → writingHas s kinds operands room (numberOf r) (placeOf r) ≡ true
   writing-fault zero e =
-      ranges-fault s (length kinds) kinds operands refl (not (eqb (length kinds) (length operands))) (ltb room (28 + 5 * length kinds)) r e
+      ranges-fault s (length kinds) kinds operands (not (eqb (length kinds) (length operands))) (ltb room (28 + 5 * length kinds)) r e
   writing-fault (suc zero) e =
       let found = failIf-failed (not (eqb (length kinds) (length operands))) Short e in rw (found .1) (found .0)
   writing-fault (suc (suc zero)) e =
-      entries-fault s (length kinds) kinds operands refl (not (eqb (length kinds) (length operands))) (ltb room (28 + 5 * length kinds)) r
+      entries-fault s (length kinds) kinds operands (not (eqb (length kinds) (length operands))) (ltb room (28 + 5 * length kinds)) r
       (λ at inside ends. ap not (ne-eqb (length kinds) (length operands) (λ same. omega arith))) e
   writing-fault (suc (suc (suc zero))) e =
       let found = failIf-failed (ltb room (28 + 5 * length kinds)) Room e in rw (found .1) (found .0)
@@ -38,7 +38,7 @@ writer-refuses-faults s kinds operands room = go (writer.writeFile s kinds opera
     go (writing.Refused r) e = let found = refused-writing s kinds operands room r e in writing-fault s kinds operands room r (found .0) (found .1)
     go (Written n) e =
         let p = written-writable s kinds operands room n e .1 in
-        no-fault-at s (length kinds) kinds operands refl (not (eqb (length kinds) (length operands))) (ltb room (28 + 5 * length kinds))
+        no-fault-at s (length kinds) kinds operands (not (eqb (length kinds) (length operands))) (ltb room (28 + 5 * length kinds))
         (p .ranges) (ap not (eq-eqb (length kinds) (length operands) (p .parallel))) (p .each) (le-ltb room (28 + 5 * length kinds) (p .fits))
 
 -- what `write` promises of the answer that it hands back

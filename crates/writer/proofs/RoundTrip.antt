@@ -103,7 +103,7 @@ module _ (s : Sizes) (kinds operands : List ℕ) (words : allBelow 4294967296 op
   numbers-fit : fitting (layout (length kinds)) (sizeNumbers s (length kinds) ++ (kinds ++ operands)) ≡ true
   numbers-fit =
       let n = length kinds in
-      let kinds-fit = fitting-replicate 1 kinds ∙ entries-bytes (s .thieves) kinds operands (p .each) in
+      let kinds-fit = fitting-replicate 1 kinds ∙ entries-bytes s kinds operands (p .each) in
       let operands-fit = ap (λ k. fitting (replicate k 4) operands) (p .parallel) ∙ fitting-replicate 4 operands ∙ words in
       fitting-append (replicate 7 4) (replicate n 1 ++ replicate n 4) (sizeNumbers s n) (kinds ++ operands) sizes-fit
       (fitting-append (replicate n 1) (replicate n 4) kinds operands kinds-fit operands-fit)
@@ -150,13 +150,13 @@ module _ (s : Sizes) (kinds operands : List ℕ) (words : allBelow 4294967296 op
   written-readable =
       let file = fileOf s kinds operands in
       let same-ranges : checkRanges (sizesIn file) (entriesIn file) ≡ checkRanges s (length kinds) = λ i. checkRanges (sizes-read i) (entries-read i) in
-      let same-entries : checkEntries (sizesIn file .thieves) (kindsIn (length kinds) file) (operandsIn (length kinds) file)
-      ≡ checkEntries (s .thieves) kinds operands =
-      λ i. checkEntries (sizes-read i .thieves) (kinds-read i) (operands-read i) in
+      let same-entries : checkEntries (sizesIn file) (kindsIn (length kinds) file) (operandsIn (length kinds) file)
+      ≡ checkEntries s kinds operands =
+      λ i. checkEntries (sizes-read i) (kinds-read i) (operands-read i) in
       record {
         ranges = same-ranges ∙ p .ranges;
         long = rw entries-read (length-fileOf s kinds operands (p .parallel));
-        each = ap (λ k. checkEntries (sizesIn file .thieves) (kindsIn k file) (operandsIn k file)) entries-read ∙ same-entries ∙ p .each;
+        each = ap (λ k. checkEntries (sizesIn file) (kindsIn k file) (operandsIn k file)) entries-read ∙ same-entries ∙ p .each;
       }
 
   read-back : ReadBack s kinds operands (fileOf s kinds operands)

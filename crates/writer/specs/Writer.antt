@@ -16,7 +16,7 @@ abbrev pub writingChecks : Sizes → List ℕ → List ℕ → ℕ → List Chec
 writingChecks s kinds operands room =
     checkRanges s (length kinds)
     ∷ failIf (not (eqb (length kinds) (length operands))) Short
-    ∷ checkEntries (s .thieves) kinds operands
+    ∷ checkEntries s kinds operands
     ∷ failIf (ltb room (fileLength (length kinds))) Room
     ∷ []
 

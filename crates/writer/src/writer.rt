@@ -35,7 +35,7 @@ fn check_writing(sizes: Sizes, kinds: &[u8], operands: &[u32], room: usize) -> C
     if kinds.len() != operands.len() {
         return Check::Failed(Refusal::Short);
     }
-    let steps = check_arrays(sizes.thieves, kinds, operands);
+    let steps = check_arrays(sizes, kinds, operands);
     if let Check::Failed(fault) = steps {
         return Check::Failed(fault);
     }

@@ -7,8 +7,10 @@ use std::io::{self, Read, Write};
 use std::path::Path;
 use std::process::{Child, ChildStdin, ChildStdout, Command, Stdio};
 
+use crate::arrays::Arrays;
 use crate::image::NUMBERS;
 use crate::schedule::{number_at, Entry};
+use crate::sides::in_file_order;
 
 /// The bytes of a machine.
 const IMAGE: usize = 8 * NUMBERS;
@@ -56,20 +58,26 @@ impl Operations {
         Ok((response[0], word(1), [word(5), word(9), word(13)], after))
     }
 
-    /// The entry at a place of two parallel arrays: 0, its kind and its operand; or
-    /// a refusal's number, 0 and its place.
-    pub fn entry_at(
-        &mut self,
-        thieves: u32,
-        kinds: &[u8],
-        operands: &[u8],
-        place: u32,
-    ) -> io::Result<(u8, u8, u32)> {
-        let length = kinds.len() as u32;
-        let head = [thieves, place, length].map(u32::to_le_bytes).concat();
-        let response = self.ask(b'e', &[&head, kinds, operands])?;
-        assert_eq!(response.len(), 6);
-        Ok((response[0], response[1], number_at(&response[2..])))
+    /// The entry to obey at a place of two parallel arrays, its kind and its operand.
+    pub fn entry_at(&mut self, arrays: &Arrays) -> io::Result<(u8, u32)> {
+        let place = arrays.place.to_le_bytes();
+        self.ask_of_arrays(b'e', arrays, &place)
+    }
+
+    /// The check of two parallel arrays: a refusal's number and its place, or twice 0.
+    pub fn check_entries(&mut self, arrays: &Arrays) -> io::Result<(u8, u32)> {
+        self.ask_of_arrays(b'c', arrays, &[])
+    }
+
+    fn ask_of_arrays(&mut self, name: u8, arrays: &Arrays, more: &[u8]) -> io::Result<(u8, u32)> {
+        let Arrays {
+            kinds, operands, ..
+        } = arrays;
+        let sizes = in_file_order(&arrays.sizes).map(u32::to_le_bytes).concat();
+        let length = (kinds.len() as u32).to_le_bytes();
+        let response = self.ask(name, &[&sizes, more, &length, kinds, operands])?;
+        assert_eq!(response.len(), 5);
+        Ok((response[0], number_at(&response[1..])))
     }
 
     /// The kinds and the operands of a file.

@@ -37,7 +37,10 @@ fn count_enough(draft: &Draft, ran: &Ran, tally: &mut Tally) {
         (Count::EnoughSeveralThieves, draft.sizes[THIEVES] > 1),
         (Count::EnoughStolen, stolen),
         (Count::EnoughFull, ran.outcomes.contains(&FULL)),
-        (Count::EnoughApartByPuts, has_takes_apart_by_puts(draft, ran)),
+        (
+            Count::EnoughApartByPuts,
+            has_takes_apart_by_puts(draft, ran),
+        ),
         (
             Count::EnoughNearLastIndex,
             draft.sizes[START] > LAST_INDEX - 300,

@@ -48,22 +48,37 @@ impl Single {
         let Arrays {
             kinds,
             operands,
-            thieves,
+            sizes,
             place,
         } = arrays;
         let both = [&kinds[..], operands].concat();
         let case = Case::new(&both, 0);
-        let proved = self.ask(&case, |program| {
-            program.entry_at(*thieves, kinds, operands, *place)
-        })?;
-        let reference = match reference::entry_at(kinds, operands, *thieves, *place) {
-            Ok((kind, operand)) => (0, kind, operand),
-            Err(refusal) => (refusal.number as u8, 0, refusal.place),
-        };
+        let proved = self.ask(&case, |program| program.entry_at(arrays))?;
+        // Where none is allowed, a step of a thief that no machine has stands in.
+        let nobody = (6, u32::MAX);
+        let reference = reference::entry_at(kinds, operands, sizes.thieves, *place);
         let what = format!(
-            "entry {place} of {} kinds, then operands, {thieves} thieves",
+            "entry {place} of {} kinds, then operands, {sizes:?}",
             kinds.len()
         );
+        case.same(&what, proved, reference.unwrap_or(nobody))
+    }
+
+    pub fn hold_check(&self, arrays: &Arrays) -> Verdict {
+        let Arrays {
+            kinds,
+            operands,
+            sizes,
+            ..
+        } = arrays;
+        let both = [&kinds[..], operands].concat();
+        let case = Case::new(&both, 0);
+        let proved = self.ask(&case, |program| program.check_entries(arrays))?;
+        let reference = match reference::check_entries(sizes, kinds, operands) {
+            Ok(()) => (0, 0),
+            Err(refusal) => (refusal.number as u8, refusal.place),
+        };
+        let what = format!("check of {} kinds, then operands, {sizes:?}", kinds.len());
         case.same(&what, proved, reference)
     }
 

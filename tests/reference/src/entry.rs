@@ -29,13 +29,9 @@ impl Entry<u32> {
         }
     }
 
-    /// Makes sense of the entry that stands at `place`, or refuses the file.
-    pub(crate) fn decode(
-        place: u32,
-        kind: u8,
-        operand: u32,
-        thieves: u32,
-    ) -> Result<Self, Refusal> {
+    /// Judges the entry that stands at `place`. A kind that orders nothing is
+    /// refused before anybody asks whose operand it would be.
+    pub(crate) fn check(place: u32, kind: u8, operand: u32, thieves: u32) -> Result<(), Refusal> {
         let entry = Entry::of_kind(kind, operand).ok_or(Refusal::kind(place))?;
         let allowed = match entry {
             Entry::BeginPut(_) => true,
@@ -45,7 +41,7 @@ impl Entry<u32> {
             }
         };
         if allowed {
-            Ok(entry)
+            Ok(())
         } else {
             Err(Refusal::who(place))
         }

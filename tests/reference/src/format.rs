@@ -21,13 +21,11 @@ pub struct Schedule {
 
 /// Reads a schedule file, or says why it is none.
 pub fn read(file: &[u8]) -> Result<Schedule, Refusal> {
-    let (sizes, kinds, operands) = split(file)?;
-    let operands: Vec<u32> = words(operands).collect();
-    check_entries(&sizes, kinds, operands.iter().copied())?;
+    let (sizes, kinds, operands) = accept(file)?;
     Ok(Schedule {
         sizes,
         kinds: kinds.to_vec(),
-        operands,
+        operands: words(operands).collect(),
     })
 }
 
@@ -42,30 +40,45 @@ pub fn write(
     file: &mut [u8],
 ) -> Result<usize, Refusal> {
     sizes.check(kinds.len())?;
-    if operands.len() != kinds.len() {
-        return Err(Refusal::SHORT);
-    }
-    check_entries(sizes, kinds, operands.iter().copied())?;
+    // In the form they have in a file, so that the reader's check is also the
+    // writer's.
+    let operands = bytes(operands.iter().copied());
+    check_entries(sizes, kinds, &operands)?;
     let length = HEADER + PER_ENTRY * kinds.len();
     let file = file.get_mut(..length).ok_or(Refusal::ROOM)?;
 
     let (header, arrays) = file.split_at_mut(HEADER);
-    let (kind_bytes, operand_bytes) = arrays.split_at_mut(kinds.len());
+    let (kind_part, operand_part) = arrays.split_at_mut(kinds.len());
     let entries = kinds.len() as u32;
-    put_words(header, sizes.in_file_order().into_iter().chain([entries]));
-    kind_bytes.copy_from_slice(kinds);
-    put_words(operand_bytes, operands.iter().copied());
+    header.copy_from_slice(&bytes(sizes.in_file_order().into_iter().chain([entries])));
+    kind_part.copy_from_slice(kinds);
+    operand_part.copy_from_slice(&operands);
     Ok(length)
 }
 
 /// The kind bytes and the operand bytes of a schedule file, as they stand in
 /// it; of a file that [`read`] refuses, two empty parts.
 pub fn parts(file: &[u8]) -> (&[u8], &[u8]) {
-    let accepted = split(file).and_then(|(sizes, kinds, operands)| {
-        check_entries(&sizes, kinds, words(operands))?;
-        Ok((kinds, operands))
-    });
+    let accepted = accept(file).map(|(_, kinds, operands)| (kinds, operands));
     accepted.unwrap_or_default()
+}
+
+/// Whether every entry of two parallel arrays is allowed, the operands as four
+/// bytes each; if not, what is wrong with the first that is not.
+///
+/// The sizes are taken as they are, in range or not: to judge them is up to
+/// whoever decoded them, and entries only ask how many thieves there are. For
+/// arrays that are not parallel the papers have no answer; here they are SHORT
+/// whatever stands in them, as a file would be that ended with them.
+pub fn check_entries(sizes: &Sizes, kinds: &[u8], operands: &[u8]) -> Result<(), Refusal> {
+    let (operands, rest) = operands.as_chunks::<4>();
+    if operands.len() != kinds.len() || !rest.is_empty() {
+        return Err(Refusal::SHORT);
+    }
+    for (place, (&kind, &operand)) in (0..).zip(kinds.iter().zip(operands)) {
+        Entry::check(place, kind, u32::from_le_bytes(operand), sizes.thieves)?;
+    }
+    Ok(())
 }
 
 /// The kind and the operand at a place of two parallel arrays, the operands
@@ -83,53 +96,35 @@ pub fn entry_at(
     let (operands, _) = operands.as_chunks::<4>();
     let operand = *operands.get(place as usize).ok_or(Refusal::SHORT)?;
     let operand = u32::from_le_bytes(operand);
-    Entry::decode(place, kind, operand, thieves)?;
+    Entry::check(place, kind, operand, thieves)?;
     Ok((kind, operand))
 }
 
 /// Reads a schedule file into the orders it gives.
 pub(crate) fn decode(file: &[u8]) -> Result<(Sizes, Vec<Entry<u32>>), Refusal> {
-    let (sizes, kinds, operands) = split(file)?;
-    let mut entries = Vec::with_capacity(kinds.len());
-    for entry in decode_entries(&sizes, kinds, words(operands)) {
-        entries.push(entry?);
-    }
-    Ok((sizes, entries))
+    let (sizes, kinds, operands) = accept(file)?;
+    let entries = kinds.iter().zip(words(operands));
+    let orders = entries.map(|(&kind, operand)| {
+        Entry::of_kind(kind, operand).expect("an accepted file has no other kinds")
+    });
+    Ok((sizes, orders.collect()))
 }
 
-/// Checks sizes and length, and cuts the file into sizes, kinds and operands.
-fn split(file: &[u8]) -> Result<(Sizes, &[u8], &[u8]), Refusal> {
+/// The one way into a file: decodes its sizes, checks all there is to check,
+/// and hands on the sizes, the kinds and the operands. What comes after it
+/// has nothing left to judge.
+fn accept(file: &[u8]) -> Result<(Sizes, &[u8], &[u8]), Refusal> {
     let (header, arrays) = file.split_first_chunk::<HEADER>().ok_or(Refusal::SHORT)?;
     let word = |place| u32::from_le_bytes(from_fn(|byte| header[4 * place + byte]));
     let sizes = Sizes::from_file_order(from_fn(word));
     let entries = word(6) as usize;
-    // The range check comes first: it also keeps the length below from
-    // overflowing on a damaged number of entries.
     sizes.check(entries)?;
-    if arrays.len() != PER_ENTRY * entries {
-        return Err(Refusal::SHORT);
-    }
-    let (kinds, operands) = arrays.split_at(entries);
+    // With as many kinds as there are entries, the file has the right length
+    // exactly when the arrays are parallel, which the check of the entries
+    // looks at first.
+    let (kinds, operands) = arrays.split_at_checked(entries).ok_or(Refusal::SHORT)?;
+    check_entries(&sizes, kinds, operands)?;
     Ok((sizes, kinds, operands))
-}
-
-fn check_entries<'a>(
-    sizes: &'a Sizes,
-    kinds: &'a [u8],
-    operands: impl Iterator<Item = u32> + 'a,
-) -> Result<(), Refusal> {
-    decode_entries(sizes, kinds, operands).try_for_each(|entry| entry.map(drop))
-}
-
-/// The entries in order, each with its own verdict.
-fn decode_entries<'a>(
-    sizes: &'a Sizes,
-    kinds: &'a [u8],
-    operands: impl Iterator<Item = u32> + 'a,
-) -> impl Iterator<Item = Result<Entry<u32>, Refusal>> + 'a {
-    (0..)
-        .zip(kinds.iter().zip(operands))
-        .map(|(place, (&kind, operand))| Entry::decode(place, kind, operand, sizes.thieves))
 }
 
 fn words(bytes: &[u8]) -> impl Iterator<Item = u32> + '_ {
@@ -137,9 +132,6 @@ fn words(bytes: &[u8]) -> impl Iterator<Item = u32> + '_ {
     words.iter().map(|word| u32::from_le_bytes(*word))
 }
 
-fn put_words(bytes: &mut [u8], values: impl Iterator<Item = u32>) {
-    let (words, _) = bytes.as_chunks_mut::<4>();
-    for (word, value) in words.iter_mut().zip(values) {
-        *word = value.to_le_bytes();
-    }
+fn bytes(words: impl Iterator<Item = u32>) -> Vec<u8> {
+    words.flat_map(u32::to_le_bytes).collect()
 }

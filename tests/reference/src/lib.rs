@@ -8,7 +8,8 @@
 //!
 //! Smaller questions have answers of their own: [`step_of_image`] makes one
 //! step on any machine, also one out of range, [`entry_at`] says what stands at
-//! a place of two arrays, and [`parts`] cuts a file into its arrays.
+//! a place of two arrays, [`check_entries`] looks for a fault at all of their
+//! places, and [`parts`] cuts a file into its arrays.
 
 #![forbid(unsafe_code)]
 
@@ -29,7 +30,7 @@ mod sizes;
 mod trace;
 
 pub use alike::alike;
-pub use format::{entry_at, parts, read, write, Schedule};
+pub use format::{check_entries, entry_at, parts, read, write, Schedule};
 pub use image::{fresh_image, step_of_image, IMAGE_BYTES};
 pub use lines::lines;
 pub use outcome::Totals;

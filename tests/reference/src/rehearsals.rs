@@ -43,10 +43,8 @@ impl Stage {
     }
 
     fn obey(&mut self, kind: u8, operand: u32) -> Outcome<u32> {
-        let entry = Entry::decode(0, kind, operand, self.sizes.thieves);
-        let outcome = self
-            .bench
-            .obey(entry.expect("a story's entries are allowed"));
+        let entry = Entry::of_kind(kind, operand).expect("a story's kinds are 0 to 6");
+        let outcome = self.bench.obey(entry);
         self.kinds.push(kind);
         self.operands.push(operand);
         self.outcomes.push(outcome);

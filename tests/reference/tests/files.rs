@@ -3,16 +3,11 @@
 
 mod common;
 
-use common::{file, Dice, SIZES};
+use common::{file, refusal, Dice, SHORT, SIZES};
 use reference::plain_queue::judge;
 use reference::{alike, entry_at, lines, parts, read, run, write, Refusal, Sizes, Totals};
 
-const SHORT: Refusal = refusal(2, 0);
 const ROOM: Refusal = refusal(8, 0);
-
-const fn refusal(number: u32, place: u32) -> Refusal {
-    Refusal { number, place }
-}
 
 /// Every operation on a file must refuse it alike and touch nothing.
 fn assert_refused(file: &[u8], expected: Refusal) {

@@ -1,7 +1,7 @@
 -- Laws of alike schedules: the comparison in bytes is the one of the definitions, and the tests of sizes and of lines are equality.
 use mathlib.Core.Path.{_≡_, refl, ap, subst, sym, _∙_}
 use mathlib.Core.Bool.{Bool, true, false, cond, _&&_, false≢true}
-use mathlib.Core.List.{List, [], _∷_, _++_}
+use mathlib.Core.List.{List, [], _∷_, _++_, map}
 use Prim.Native.Nat.{ℕ, suc, _+_, _-_, _<_}
 use native.Mathlib.Nat.{suc-inj, suc-ne-zero}
 use native.Mathlib.Omega.{arith}
@@ -9,118 +9,87 @@ use lib.Dec.{eqb}
 use lib.ListN.{length, getD}
 use borrow.Author.Tests.{eq-eqb, eqb-true}
 use Rattle.terms.specs.declared.outcome.Outcome.the-variants.{Moved}
-use Rattle.terms.specs.Outcome.{isAnswer, isAnswerNumber}
-use Rattle.terms.specs.Kinds.{kindOf, operandOf}
+use Rattle.terms.specs.Outcome.{isAnswer, isAnswerNumber, valueOf}
 use Rattle.terms.specs.Refusal.{Refuses}
 use Rattle.terms.proofs.Laws.Tests.{and-left, and-right, either}
 use Rattle.terms.specs.Lists.{all, concatMap, rangeFrom, range}
-use Rattle.comparison.specs.Types.{BeginPut, BeginSteal, BeginTake, ClientStore, Drain, Entry, Likeness, Outcome, Reading, Sizes, ThiefStep, WorkerStep, Accepted}
+use Rattle.comparison.specs.Types.{Accepted, Drain, Entry, Likeness, Outcome, Reading, Sizes}
 use Rattle.schedule.specs.declared.reader.Reading.the-variants as reading
 use Rattle.schedule.specs.Faults.{fileHas, refusalInReading}
 use Rattle.schedule.proofs.Faults.{reader-refuses-faults}
-use Rattle.schedule.specs.Format.{allBelow, entriesIn, kindsIn, operandsIn, sizesIn}
+use Rattle.schedule.specs.Format.{allBelow, wordsIn}
 use Rattle.schedule.specs.Trace.{Line, lineIn, lineOf, traceOf}
-use Rattle.comparison.specs.Alike.{LikenessRefuses, answersOf, answersFor, likeness, likenessOf, partyNumber, sameAnswers, sameLine, sameLines, sameSizes}
-use Rattle.comparison.specs.Comparison.{answered, linesFrom, partyIn, sameForAll}
+use Rattle.comparison.specs.Alike.{LikenessRefuses, answersFor, likeness, likenessOf, partyNumber, sameAnswers, sameLine, sameLines, sameSizes}
+use Rattle.comparison.specs.Comparison.{answered, linesFrom, sameForAll, sameRuns}
 use Rattle.number.specs.Number.{overwritten}
-use Rattle.schedule.specs.Reader.{readFile}
-use Rattle.schedule.specs.Run.{outcomesIn, scheduleIn}
+use Rattle.schedule.specs.Reader.{kindPart, operandPart, readFile}
+use Rattle.schedule.specs.Run.{entriesOf, outcomesFrom}
 use Rattle.machine.specs.Machine.{fresh}
-use Rattle.schedule.proofs.Laws.Entries.{entry-as-read, entryAt-both}
-use Rattle.schedule.proofs.Laws.Format.{length-kindsIn, length-operandsIn}
-use Rattle.schedule.proofs.Laws.Reader.{accepted-readable}
-use Rattle.schedule.proofs.Laws.Run.{entriesUpTo-at, file-values-fit, length-outcomesOf, schedule-length}
+use Rattle.schedule.proofs.Laws.Run.{entry-there, length-entriesUpTo, length-outcomesFrom, length-outcomesOf, parts-obeyed}
 use Rattle.schedule.proofs.Laws.Trace.{lineIn-written}
 
 -- ── The comparison in bytes ─────────────────────────────────────────────────────────────────────────────────────────────────
-
--- whose entry it is, by its kind and its operand
-party-of-entry : (e : Entry) → partyIn (kindOf e) (operandOf e) ≡ partyNumber e
-party-of-entry Drain = refl
-party-of-entry ClientStore = refl
-party-of-entry (BeginPut x) = refl
-party-of-entry BeginTake = refl
-party-of-entry WorkerStep = refl
-party-of-entry (BeginSteal i) = refl
-party-of-entry (ThiefStep i) = refl
 
 -- at most one element before others
 one-before : {A : Type 0} (b : Bool) (x : A) (l : List A) → cond b (x ∷ []) [] ++ l ≡ cond b (x ∷ l) l
 one-before true x l = refl
 one-before false x l = refl
 
--- what a file of n entries and a trace tell of a place: the kind and the operand of an entry, and the line of an outcome
-abbrev pub Told : ℕ → List ℕ → List ℕ → ℕ → Entry → Outcome → Type 0
-Told n file trace at e o = (getD (kindsIn n file) at 0 ≡ kindOf e) × (getD (operandsIn n file) at 0 ≡ operandOf e) × (lineIn n trace at ≡ lineOf o)
+-- the run of two arrays, whose values fit four bytes, and the buffer that its trace was written into
+module _ (party : ℕ) (s : Sizes) (kinds operands l : List ℕ) (fit : allBelow 4294967296 (map valueOf (outcomesFrom s kinds operands)) ≡ true) where
+  abbrev os : List Outcome
+  os = outcomesFrom s kinds operands
 
-module _ (party n : ℕ) (file trace : List ℕ) where
-  abbrev answer-at : ℕ → List Line
-  answer-at i = cond (answered party n file trace i) (lineIn n trace i ∷ []) []
+  abbrev trace : List ℕ
+  trace = overwritten 0 (traceOf os) l
 
-  answered-told : (at : ℕ) (e : Entry) (o : Outcome) → Told n file trace at e o → answered party n file trace at ≡ (isAnswer o && eqb (partyNumber e) party)
-  answered-told at e o told =
-      (λ i. isAnswerNumber (told .2 i .number) && eqb (partyIn (told .0 i) (told .1 i)) party)
-      ∙ ap (λ k. isAnswer o && eqb k party) (party-of-entry e)
+  -- the line of an entry, and whether it is an answer for the party
+  line-there : (at : ℕ) → at < length kinds → lineIn (length kinds) trace at ≡ lineOf (getD os at Moved)
+  line-there at there =
+      ap (λ n. lineIn n trace at) (sym (length-outcomesFrom s kinds operands)) ∙ lineIn-written os l at fit (omega (arith, length-outcomesFrom s kinds operands))
+
+  answered-there : (at : ℕ) → at < length kinds
+      → answered party s kinds operands trace at ≡ (isAnswer (getD os at Moved) && eqb (partyNumber (getD (entriesOf s kinds operands) at Drain)) party)
+  answered-there at there = λ i. isAnswerNumber (line-there at there i .number) && eqb (partyNumber (sym (entry-there s kinds operands at there) i)) party
 
   -- from a place on, where the entries and the outcomes from there on are known
-  answers-from : (es : List Entry) (os : List Outcome) (at : ℕ) → length es ≡ length os
-      → ((i k : ℕ) → k ≡ at + i → i < length es → Told n file trace k (getD es i Drain) (getD os i Moved))
-      → concatMap answer-at (rangeFrom at (length es)) ≡ answersFor party es os
-  answers-from [] os at long each = refl
-  answers-from (e ∷ es) [] at long each = absurd (suc-ne-zero (length es) long)
-  answers-from (e ∷ es) (o ∷ os) at long each =
-      let told = each 0 at (omega arith) (omega arith) in
-      let rest = answers-from es os (suc at) (suc-inj long) (λ i k p h. each (suc i) k (omega arith) (omega arith)) in
-      (λ i. cond (answered-told at e o told i) (told .2 i ∷ []) [] ++ rest i)
-      ∙ one-before (isAnswer o && eqb (partyNumber e) party) (lineOf o) (answersFor party es os)
+  answers-from : (es : List Entry) (os′ : List Outcome) (at : ℕ) → length es ≡ length os′ → at + length es ≡ length kinds
+      → ((i k : ℕ) → k ≡ at + i → (getD es i Drain ≡ getD (entriesOf s kinds operands) k Drain) × (getD os′ i Moved ≡ getD os k Moved))
+      → concatMap (λ i. cond (answered party s kinds operands trace i) (lineIn (length kinds) trace i ∷ []) []) (rangeFrom at (length es)) ≡ answersFor party es os′
+  answers-from [] os′ at long end each = refl
+  answers-from (e ∷ es) [] at long end each = absurd (suc-ne-zero (length es) long)
+  answers-from (e ∷ es) (o ∷ os′) at long end each =
+      let there : at < length kinds = omega arith in
+      let here = each 0 at (omega arith) in
+      let line = line-there at there ∙ ap lineOf (sym (here .1)) in
+      let test = answered-there at there ∙ (λ i. isAnswer (sym (here .1) i) && eqb (partyNumber (sym (here .0) i)) party) in
+      let rest = answers-from es os′ (suc at) (suc-inj long) (omega arith) (λ i k p. each (suc i) k (omega arith)) in
+      (λ i. cond (test i) (line i ∷ []) [] ++ rest i) ∙ one-before (isAnswer o && eqb (partyNumber e) party) (lineOf o) (answersFor party es os′)
 
--- the lines that are compared are the party's answers, where file and trace tell the entries and the outcomes
-pub lines-of-run : (party n : ℕ) (file : List ℕ) (es : List Entry) (os : List Outcome) (trace : List ℕ) → length es ≡ n → length os ≡ n
-    → ((at : ℕ) → at < n → Told n file trace at (getD es at Drain) (getD os at Moved))
-    → linesFrom party n file trace 0 ≡ answersFor party es os
-lines-of-run party n file es os trace long other-long each =
-    let whole : n - 0 ≡ length es = omega arith in
-    ap (λ k. concatMap (answer-at party n file trace) (rangeFrom 0 k)) whole
-    ∙ answers-from party n file trace es os 0 (long ∙ sym other-long)
-    (λ i k p h. let same : k ≡ i = omega arith in subst (λ j. Told n file trace j (getD es i Drain) (getD os i Moved)) (sym same) (each i (omega arith)))
-
--- .. as an accepted file and the trace of its run do
-pub lines-of-file : (file l : List ℕ) (s : Sizes) (n : ℕ) → readFile file ≡ Accepted s n → allBelow 256 file ≡ true
-    → (party : ℕ) → linesFrom party n file (overwritten 0 (traceOf (outcomesIn file)) l) 0 ≡ answersOf party file
-lines-of-file file l s n accepted bytes party =
-    let trace = overwritten 0 (traceOf (outcomesIn file)) l in
-    let entries = accepted-readable file s n accepted .1 .0 in
-    ap (λ k. linesFrom party k file trace 0) entries
-    ∙ lines-of-run party (entriesIn file) file (scheduleIn file) (outcomesIn file) trace many as-many told
-  where
-    many : length (scheduleIn file) ≡ entriesIn file
-    many = schedule-length file s n accepted ∙ accepted-readable file s n accepted .1 .0
-
-    as-many : length (outcomesIn file) ≡ entriesIn file
-    as-many = length-outcomesOf (fresh (sizesIn file)) (scheduleIn file) ∙ many
-
-    told : (at : ℕ) → at < entriesIn file
-        → Told (entriesIn file) file (overwritten 0 (traceOf (outcomesIn file)) l) at (getD (scheduleIn file) at Drain) (getD (outcomesIn file) at Moved)
-    told at there =
-        let n = entriesIn file in
-        let thieves = sizesIn file .thieves in
-        let kinds = kindsIn n file in
-        let operands = operandsIn n file in
-        let in-kinds : at < length kinds = omega (arith, length-kindsIn n file) in
-        let in-operands : at < length operands = omega (arith, length-operandsIn n file) in
-        let allowed = entriesUpTo-at thieves kinds operands (accepted-readable file s _ accepted .1 .1 .each) at in-kinds in
-        let as-read = entry-as-read thieves at (getD kinds at 0) (getD operands at 0) _ (sym (entryAt-both thieves kinds operands at in-kinds in-operands) ∙ allowed) in (
-          sym (as-read .0),
-          sym (as-read .1),
-          ap (λ k. lineIn k (overwritten 0 (traceOf (outcomesIn file)) l) at) (sym as-many) ∙ lineIn-written (outcomesIn file) l at (file-values-fit file bytes) (omega (arith, as-many)),
-        )
+  -- the lines that are compared are the party's answers
+  pub lines-of-run : linesFrom party s kinds operands trace 0 ≡ answersFor party (entriesOf s kinds operands) os
+  lines-of-run =
+      let count = length-entriesUpTo s kinds operands (length kinds) in
+      let whole : length kinds - 0 ≡ length (entriesOf s kinds operands) = omega (arith, count) in
+      ap (λ k. concatMap (λ i. cond (answered party s kinds operands trace i) (lineIn (length kinds) trace i ∷ []) []) (rangeFrom 0 k)) whole
+      ∙ answers-from (entriesOf s kinds operands) os 0 (sym (length-outcomesOf (fresh s) (entriesOf s kinds operands))) (omega (arith, count))
+      (λ i k p. let same : i ≡ k = omega arith in (ap (λ j. getD (entriesOf s kinds operands) j Drain) same, ap (λ j. getD os j Moved) same))
 
 -- .. and so, of two runs, the comparison for the worker and each thief
-pub same-answers : (thieves n : ℕ) (file trace : List ℕ) (m : ℕ) (other other-trace : List ℕ)
-    → ((party : ℕ) → linesFrom party n file trace 0 ≡ answersOf party file)
-    → ((party : ℕ) → linesFrom party m other other-trace 0 ≡ answersOf party other)
-    → sameForAll thieves n file trace m other other-trace ≡ sameAnswers thieves file other
-same-answers thieves n file trace m other other-trace p q = λ i. all (λ party. sameLines (p party i) (q party i)) (range (thieves + 1))
+pub same-runs : (s : Sizes) (kinds operands trace others other-operands other-trace : List ℕ)
+    → ((party : ℕ) → linesFrom party s kinds operands trace 0 ≡ answersFor party (entriesOf s kinds operands) (outcomesFrom s kinds operands))
+    → ((party : ℕ) → linesFrom party s others other-operands other-trace 0 ≡ answersFor party (entriesOf s others other-operands) (outcomesFrom s others other-operands))
+    → sameForAll s kinds operands trace others other-operands other-trace ≡ sameRuns s kinds operands others other-operands
+same-runs s kinds operands trace others other-operands other-trace p q = λ i. all (λ party. sameLines (p party i) (q party i)) (range (s .thieves + 1))
+
+-- .. which is that of two accepted files with the same sizes, whose parts these are
+pub same-files : (file other : List ℕ) (s : Sizes) (n m : ℕ) → readFile file ≡ Accepted s n → readFile other ≡ Accepted s m
+    → sameRuns s (kindPart file (Accepted s n)) (wordsIn (operandPart file (Accepted s n))) (kindPart other (Accepted s m)) (wordsIn (operandPart other (Accepted s m)))
+    ≡ sameAnswers (s .thieves) file other
+same-files file other s n m accepted other-accepted =
+    let one = parts-obeyed file s n accepted in
+    let two = parts-obeyed other s m other-accepted in
+    λ i. all (λ party. sameLines (answersFor party (one .entries i) (one .outcomes i)) (answersFor party (two .entries i) (two .outcomes i))) (range (s .thieves + 1))
 
 -- ── The tests are equality ──────────────────────────────────────────────────────────────────────────────────────────────────
 

@@ -1,67 +1,46 @@
--- Laws of comparing two runs: where the bytes of an entry and of its outcome lie, the search for the next answer, and the comparison of two runs from one answer to the next.
+-- Laws of comparing two runs: where the byte of an outcome lies, the search for the next answer, and the comparison of two runs from one answer to the next.
 use mathlib.Core.Path.{_≡_, refl, ap, subst, sym, _∙_}
-use mathlib.Core.Bool.{Bool, true, false, cond, _&&_, false≢true}
+use mathlib.Core.Bool.{Bool, true, false, cond, _&&_}
 use mathlib.Core.List.{List, [], _∷_, _++_}
 use Prim.Native.Nat.{ℕ, zero, suc, _+_, _*_, _-_, _≤_, _<_, zero-le}
 use native.Mathlib.Nat.{le-of-eq}
 use native.Mathlib.Numerals.{add-one}
 use native.Mathlib.Omega.{arith}
 use lib.Dec.{eqb}
-use lib.ListN.{length, drop, getD, take}
-use lib.Seq.{drop-drop, getD-drop, getD-take}
+use lib.ListN.{length, getD}
 use borrow.Author.Tests.{eq-eqb, eqb-false, eqb-true, ne-eqb}
 use Rattle.terms.proofs.Laws.Tests.{decide}
-use Rattle.terms.specs.Lists.{all, concatMap, rangeFrom, range}
-use Rattle.terms.proofs.Laws.Lists.{all-snoc, all-range}
-use Rattle.terms.proofs.Laws.Sums.{range-suc}
-use Rattle.comparison.specs.Alike.{sameLine, sameLines}
+use Rattle.terms.specs.Lists.{concatMap, rangeFrom}
 use Rattle.terms.specs.Outcome.{isAnswerNumber}
-use Rattle.comparison.specs.Comparison.{answered, firstFrom, linesFrom, partyIn, sameFor}
-use Rattle.schedule.specs.Format.{kindsIn, operandsIn}
-use Rattle.number.specs.Number.{ofBytes, wordAt}
-use Rattle.number.proofs.Laws.Words.{word-there}
+use Rattle.comparison.specs.Types.{Entry, Sizes}
+use Rattle.comparison.specs.Alike.{partyNumber, sameLine, sameLines}
+use Rattle.comparison.specs.Comparison.{answered, firstFrom, linesFrom, sameFor}
+use Rattle.number.specs.Number.{wordAt}
+use Rattle.schedule.specs.Entries.{entryAt, entryToObey}
 use Rattle.schedule.specs.Trace.{Line, lineIn}
-use Rattle.schedule.proofs.Laws.Format.{getD-words, kindsIn-part, operandsIn-words}
 use Rattle.schedule.proofs.Laws.Trace.{lineIn-number, lineIn-value}
 
 -- ── Where the bytes lie ─────────────────────────────────────────────────────────────────────────────────────────────────────
 
--- the kind byte of an entry, and the four bytes of its operand
+-- whether an entry gets an answer for the party, by the byte of its outcome, and whose entry it is
+module _ (party : ℕ) (s : Sizes) (kinds operands trace : List ℕ) (at : ℕ) (there : at < length kinds) where
+  abbrev entry : Entry
+  entry = entryToObey (entryAt s kinds operands at)
 
-pub kindsIn-at : (n : ℕ) (file : List ℕ) (at : ℕ) → at < n → 28 + n ≤ length file → getD (kindsIn n file) at 0 ≡ getD file (28 + at) 0
-kindsIn-at n file at h long = ap (λ l. getD l at 0) (kindsIn-part n file long) ∙ getD-take n (drop 28 file) at 0 h ∙ getD-drop 28 file at 0
+  answered-byte : answered party s kinds operands trace at ≡ (isAnswerNumber (getD trace (4 + at) 0) && eqb (partyNumber entry) party)
+  answered-byte = λ i. isAnswerNumber (lineIn-number (length kinds) trace at there i) && eqb (partyNumber entry) party
 
-pub operandsIn-at : (n : ℕ) (file : List ℕ) (at : ℕ) → at < n → length file ≡ 28 + 5 * n → getD (operandsIn n file) at 0 ≡ wordAt file (28 + n + 4 * at)
-operandsIn-at n file at h whole =
-    ap (λ l. getD l at 0) (operandsIn-words n file)
-    ∙ getD-words n at (drop (28 + n) file) h
-    ∙ ap (λ l. ofBytes (take 4 l)) (drop-drop (4 * at) (28 + n) file)
-    ∙ sym (word-there file (28 + n + 4 * at) (omega arith))
+  pub answered-none : isAnswerNumber (getD trace (4 + at) 0) ≡ false → answered party s kinds operands trace at ≡ false
+  answered-none no-answer = answered-byte ∙ ap (λ b. b && eqb (partyNumber entry) party) no-answer
 
--- whether an entry gets an answer for the party, by the byte of its outcome, its operand, and whose entry that makes it
-module _ (party n : ℕ) (file trace : List ℕ) (whole : length file ≡ 28 + 5 * n) (long : 4 + 5 * n ≤ length trace) (at : ℕ) (there : at < n) where
-  answered-bytes : answered party n file trace at
-      ≡ (isAnswerNumber (getD trace (4 + at) 0) && eqb (partyIn (getD file (28 + at) 0) (wordAt file (28 + n + 4 * at))) party)
-  answered-bytes =
-      λ i. isAnswerNumber (lineIn-number n trace at there i)
-      && eqb (partyIn (kindsIn-at n file at there (omega arith) i) (operandsIn-at n file at there whole i)) party
+  module _ (whose : ℕ) (of : whose ≡ partyNumber entry) (answer : isAnswerNumber (getD trace (4 + at) 0) ≡ true) where
+    by-party : answered party s kinds operands trace at ≡ eqb whose party
+    by-party = answered-byte ∙ (λ i. answer i && eqb (sym of i) party)
 
-  pub answered-none : isAnswerNumber (getD trace (4 + at) 0) ≡ false → answered party n file trace at ≡ false
-  answered-none no-answer =
-      answered-bytes
-      ∙ ap (λ b. b && eqb (partyIn (getD file (28 + at) 0) (wordAt file (28 + n + 4 * at))) party) no-answer
-
-  module _ (operand whose : ℕ) (read : operand ≡ wordAt file (28 + n + 4 * at)) (of : whose ≡ partyIn (getD file (28 + at) 0) operand) (answer : isAnswerNumber (getD trace (4 + at) 0) ≡ true) where
-    by-party : answered party n file trace at ≡ eqb whose party
-    by-party =
-        answered-bytes
-        ∙ (λ i. answer i && eqb (partyIn (getD file (28 + at) 0) (sym read i)) party)
-        ∙ ap (λ k. eqb k party) (sym of)
-
-    pub answered-for : whose ≡ party → answered party n file trace at ≡ true
+    pub answered-for : whose ≡ party → answered party s kinds operands trace at ≡ true
     answered-for same = by-party ∙ eq-eqb whose party same
 
-    pub answered-another : (whose ≡ party → ⊥) → answered party n file trace at ≡ false
+    pub answered-another : (whose ≡ party → ⊥) → answered party s kinds operands trace at ≡ false
     answered-another other = by-party ∙ ne-eqb whose party other
 
 -- whether two lines are the same, by their bytes: other numbers decide, else the values do
@@ -149,15 +128,18 @@ module _ {A : Type 0} (test : ℕ → Bool) (f : ℕ → A) where
 
 -- ── A party's answers from a place on ───────────────────────────────────────────────────────────────────────────────────────
 
-module _ (party n : ℕ) (file trace : List ℕ) where
+module _ (party : ℕ) (s : Sizes) (kinds operands trace : List ℕ) where
+  abbrev n : ℕ
+  n = length kinds
+
   -- a place at which the search for the party's answers rests
   abbrev pub AtAnswer : ℕ → Type 0
-  AtAnswer at = Rests (answered party n file trace) n at
+  AtAnswer at = Rests (answered party s kinds operands trace) n at
 
   -- The next answer from a place on: the search rests there, not before that place, and nothing is left out.
-  module _ (from at : ℕ) (found : at ≡ firstFrom (answered party n file trace) from (n - from)) where
+  module _ (from at : ℕ) (found : at ≡ firstFrom (answered party s kinds operands trace) from (n - from)) where
     pub next-not-before : from ≤ at
-    next-not-before = omega (arith, found, first-not-before (answered party n file trace) (n - from) from)
+    next-not-before = omega (arith, found, first-not-before (answered party s kinds operands trace) (n - from) from)
 
     module _ (inside : from ≤ n) where
       whole : from + (n - from) ≡ n
@@ -166,86 +148,92 @@ module _ (party n : ℕ) (file trace : List ℕ) where
       pub next-rests : AtAnswer at
       next-rests =
           subst AtAnswer (sym found)
-          (subst (λ end. Rests (answered party n file trace) end (firstFrom (answered party n file trace) from (n - from))) whole
-          (first-rests (answered party n file trace) (n - from) from))
+          (subst (λ end. Rests (answered party s kinds operands trace) end (firstFrom (answered party s kinds operands trace) from (n - from))) whole
+          (first-rests (answered party s kinds operands trace) (n - from) from))
 
-      pub next-lines : linesFrom party n file trace from ≡ linesFrom party n file trace at
+      pub next-lines : linesFrom party s kinds operands trace from ≡ linesFrom party s kinds operands trace at
       next-lines =
-          passing-first (answered party n file trace) (lineIn n trace) n (n - from) from whole ∙ ap (linesFrom party n file trace) (sym found)
+          passing-first (answered party s kinds operands trace) (lineIn n trace) n (n - from) from whole ∙ ap (linesFrom party s kinds operands trace) (sym found)
 
   -- where the search rests, its answer comes first; at the end there is none
 
-  pub lines-answer : (at : ℕ) → AtAnswer at → at < n → linesFrom party n file trace at ≡ lineIn n trace at ∷ linesFrom party n file trace (at + 1)
-  lines-answer at rests h = rw add-one (passing-here (answered party n file trace) (lineIn n trace) n at h (rests .1 h))
+  pub lines-answer : (at : ℕ) → AtAnswer at → at < n → linesFrom party s kinds operands trace at ≡ lineIn n trace at ∷ linesFrom party s kinds operands trace (at + 1)
+  lines-answer at rests h = rw add-one (passing-here (answered party s kinds operands trace) (lineIn n trace) n at h (rests .1 h))
 
-  pub lines-end : (at : ℕ) → n ≤ at → linesFrom party n file trace at ≡ []
-  lines-end at h = passing-end (answered party n file trace) (lineIn n trace) n at h
+  pub lines-end : (at : ℕ) → n ≤ at → linesFrom party s kinds operands trace at ≡ []
+  lines-end at h = passing-end (answered party s kinds operands trace) (lineIn n trace) n at h
 
 -- ── Two runs ────────────────────────────────────────────────────────────────────────────────────────────────────────────────
 
-module _ (party n : ℕ) (file trace : List ℕ) (m : ℕ) (other other-trace : List ℕ) where
+module _ (party : ℕ) (s : Sizes) (kinds operands trace others other-operands other-trace : List ℕ) where
+  abbrev k : ℕ
+  k = length kinds
+
+  abbrev m : ℕ
+  m = length others
+
   abbrev lines : ℕ → List Line
-  lines at = linesFrom party n file trace at
+  lines at = linesFrom party s kinds operands trace at
 
   abbrev other-lines : ℕ → List Line
-  other-lines there = linesFrom party m other other-trace there
+  other-lines there = linesFrom party s others other-operands other-trace there
 
   abbrev same : Bool
-  same = sameFor n file trace m other other-trace party
+  same = sameFor s kinds operands trace others other-operands other-trace party
 
   -- Two places that a comparison has reached: the search rests at both, and what is left from there on decides.
   pub record Compared (at there : ℕ) : Type 0 where
-    pub rests : AtAnswer party n file trace at
-    pub other-rests : AtAnswer party m other other-trace there
+    pub rests : AtAnswer party s kinds operands trace at
+    pub other-rests : AtAnswer party s others other-operands other-trace there
     pub decides : same ≡ sameLines (lines at) (other-lines there)
 
-  pub compared-first : (at there : ℕ) → at ≡ firstFrom (answered party n file trace) 0 (n - 0) → there ≡ firstFrom (answered party m other other-trace) 0 (m - 0)
+  pub compared-first : (at there : ℕ) → at ≡ firstFrom (answered party s kinds operands trace) 0 (k - 0) → there ≡ firstFrom (answered party s others other-operands other-trace) 0 (m - 0)
       → Compared at there
   compared-first at there found other-found =
       record {
-        rests = next-rests party n file trace 0 at found zero-le;
-        other-rests = next-rests party m other other-trace 0 there other-found zero-le;
-        decides = λ i. sameLines (next-lines party n file trace 0 at found zero-le i) (next-lines party m other other-trace 0 there other-found zero-le i);
+        rests = next-rests party s kinds operands trace 0 at found zero-le;
+        other-rests = next-rests party s others other-operands other-trace 0 there other-found zero-le;
+        decides = λ i. sameLines (next-lines party s kinds operands trace 0 at found zero-le i) (next-lines party s others other-operands other-trace 0 there other-found zero-le i);
       }
 
   module _ (at there : ℕ) (so-far : Compared at there) where
     -- both have an answer: these must be the same, and then the others
 
-    module _ (h : at < n) (k : there < m) where
-      by-line : same ≡ (sameLine (lineIn n trace at) (lineIn m other-trace there) && sameLines (lines (at + 1)) (other-lines (there + 1)))
+    module _ (h : at < k) (h′ : there < m) where
+      by-line : same ≡ (sameLine (lineIn k trace at) (lineIn m other-trace there) && sameLines (lines (at + 1)) (other-lines (there + 1)))
       by-line =
           so-far .decides
-          ∙ (λ i. sameLines (lines-answer party n file trace at (so-far .rests) h i) (lines-answer party m other other-trace there (so-far .other-rests) k i))
+          ∙ (λ i. sameLines (lines-answer party s kinds operands trace at (so-far .rests) h i) (lines-answer party s others other-operands other-trace there (so-far .other-rests) h′ i))
 
-      pub compared-differ : sameLine (lineIn n trace at) (lineIn m other-trace there) ≡ false → same ≡ false
+      pub compared-differ : sameLine (lineIn k trace at) (lineIn m other-trace there) ≡ false → same ≡ false
       compared-differ e = by-line ∙ ap (λ b. b && sameLines (lines (at + 1)) (other-lines (there + 1))) e
 
-      pub compared-next : sameLine (lineIn n trace at) (lineIn m other-trace there) ≡ true → (at′ there′ : ℕ)
-          → at′ ≡ firstFrom (answered party n file trace) (at + 1) (n - (at + 1))
-          → there′ ≡ firstFrom (answered party m other other-trace) (there + 1) (m - (there + 1))
+      pub compared-next : sameLine (lineIn k trace at) (lineIn m other-trace there) ≡ true → (at′ there′ : ℕ)
+          → at′ ≡ firstFrom (answered party s kinds operands trace) (at + 1) (k - (at + 1))
+          → there′ ≡ firstFrom (answered party s others other-operands other-trace) (there + 1) (m - (there + 1))
           → Compared at′ there′
       compared-next e at′ there′ found other-found =
-          let inside : at + 1 ≤ n = omega arith in
+          let inside : at + 1 ≤ k = omega arith in
           let other-inside : there + 1 ≤ m = omega arith in
           record {
-            rests = next-rests party n file trace (at + 1) at′ found inside;
-            other-rests = next-rests party m other other-trace (there + 1) there′ other-found other-inside;
+            rests = next-rests party s kinds operands trace (at + 1) at′ found inside;
+            other-rests = next-rests party s others other-operands other-trace (there + 1) there′ other-found other-inside;
             decides =
                 by-line
-                ∙ (λ i. e i && sameLines (next-lines party n file trace (at + 1) at′ found inside i) (next-lines party m other other-trace (there + 1) there′ other-found other-inside i));
+                ∙ (λ i. e i && sameLines (next-lines party s kinds operands trace (at + 1) at′ found inside i) (next-lines party s others other-operands other-trace (there + 1) there′ other-found other-inside i));
           }
 
     -- only the first has one
-    pub compared-fewer : at < n → m ≤ there → same ≡ false
-    compared-fewer h k = so-far .decides ∙ (λ i. sameLines (lines-answer party n file trace at (so-far .rests) h i) (lines-end party m other other-trace there k i))
+    pub compared-fewer : at < k → m ≤ there → same ≡ false
+    compared-fewer h past = so-far .decides ∙ (λ i. sameLines (lines-answer party s kinds operands trace at (so-far .rests) h i) (lines-end party s others other-operands other-trace there past i))
 
     -- the first has none: neither may the other
-    pub compared-end : n ≤ at → same ≡ eqb there m
+    pub compared-end : k ≤ at → same ≡ eqb there m
     compared-end h = so-far .decides ∙ go (eqb there m) refl
       where
         go : (b : Bool) → eqb there m ≡ b → sameLines (lines at) (other-lines there) ≡ b
-        go true e = λ i. sameLines (lines-end party n file trace at h i) (lines-end party m other other-trace there (le-of-eq (sym (eqb-true there m e))) i)
+        go true e = λ i. sameLines (lines-end party s kinds operands trace at h i) (lines-end party s others other-operands other-trace there (le-of-eq (sym (eqb-true there m e))) i)
         go false e =
             let apart = eqb-false there m e in
             let before : there < m = omega (arith, so-far .other-rests .0) in
-            λ i. sameLines (lines-end party n file trace at h i) (lines-answer party m other other-trace there (so-far .other-rests) before i)
+            λ i. sameLines (lines-end party s kinds operands trace at h i) (lines-answer party s others other-operands other-trace there (so-far .other-rests) before i)

@@ -1,34 +1,32 @@
 -- Laws of a file's lines: those of its entries as a trace has them, and that the place of a refusal is a number of 32 bits.
 use mathlib.Core.Path.{_≡_, refl, ap, sym, _∙_, subst}
 use mathlib.Core.Bool.{Bool, true, false, not, false≢true, _&&_}
-use mathlib.Core.List.{List, [], _∷_, _++_}
-use Prim.Native.Nat.{ℕ, zero, suc, _+_, _≤_, _<_, suc-le-suc}
+use mathlib.Core.List.{List, [], _∷_, _++_, map}
+use Prim.Native.Nat.{ℕ, zero, suc, _+_, _<_, suc-le-suc}
 use native.Mathlib.Nat.{add-zero, zero-add, zero-lt-suc}
 use native.Mathlib.Numerals.{add-one}
 use native.Mathlib.Omega.{arith}
-use lib.Dec.{leb, lit<, ltb}
+use lib.Dec.{ltb}
 use lib.ListN.{length, getD}
 use borrow.Author.Tests.{ltb-true}
+use Rattle.terms.specs.Outcome.{valueOf}
 use Rattle.terms.specs.Refusal.{Refuses, numberOf, placeOf}
 use Rattle.terms.specs.declared.outcome.Outcome.the-variants.{Moved}
 use Rattle.terms.specs.declared.refusal.Refusal.the-variants.{Size, Short, Kind, Who, Room}
 use Rattle.terms.proofs.Laws.Tests.{and-left}
 use Rattle.terms.specs.Lists.{concatMap, rangeFrom}
-use Rattle.machine.specs.Machine.{fresh}
 use Rattle.terms.proofs.Laws.Lists.{all-getD}
 use Rattle.number.specs.Number.{overwritten}
 use Rattle.schedule.specs.declared.reader.Reading.the-variants as reading
 use Rattle.schedule.specs.Check.{sizesKept}
-use Rattle.schedule.specs.Faults.{fileHas, operandAllowed, refusalInReading}
-use Rattle.schedule.specs.Format.{allBelow, decode, entriesIn, kindsIn, layout, operandsIn, sizesIn}
+use Rattle.schedule.specs.Faults.{fileHas, refusalInReading}
+use Rattle.schedule.specs.Format.{allBelow, decode, entriesIn, kindsIn, layout, sizesIn}
 use Rattle.schedule.specs.Reader.{readFile}
-use Rattle.schedule.specs.Run.{outcomesIn, scheduleIn}
 use Rattle.schedule.specs.Trace.{traceOf}
 use Rattle.schedule.proofs.Faults.{reader-refuses-faults}
-use Rattle.schedule.proofs.Laws.Format.{decode-below}
-use Rattle.schedule.proofs.Laws.Run.{file-values-fit, length-outcomesOf, schedule-length}
+use Rattle.schedule.proofs.Laws.Format.{decode-below, length-kindsIn}
 use Rattle.schedule.proofs.Laws.Trace.{lineIn-written}
-use Rattle.lines.specs.Types.{Accepted, Outcome, Refusal, Sizes}
+use Rattle.lines.specs.Types.{Outcome, Refusal}
 use Rattle.lines.specs.FromTrace.{lineFromTrace, linesFromTrace, threeNumbers}
 use Rattle.lines.specs.Lines.{entryLine, entryLines}
 
@@ -44,16 +42,14 @@ concatMap-lines f (o ∷ os) k same =
     let others = concatMap-lines f os (suc k) (λ i there. rw (next i) at (same (suc i) (suc-le-suc there))) in
     λ i. first i ++ (others ∙ ap (λ j. entryLines j os) (sym (add-one k))) i
 
--- the lines of all entries, from the trace of an accepted file
-pub trace-lines : (file l : List ℕ) (s : Sizes) (n : ℕ) → readFile file ≡ Accepted s n → allBelow 256 file ≡ true
-    → linesFromTrace n (overwritten 0 (traceOf (outcomesIn file)) l) ≡ entryLines 0 (outcomesIn file)
-trace-lines file l s n accepted bytes =
-    let os = outcomesIn file in
+-- the lines of all entries, from the trace of a run whose values fit four bytes
+pub trace-lines : (os : List Outcome) (l : List ℕ) (n : ℕ) → length os ≡ n → allBelow 4294967296 (map valueOf os) ≡ true
+    → linesFromTrace n (overwritten 0 (traceOf os) l) ≡ entryLines 0 os
+trace-lines os l n as-many fit =
     let trace = overwritten 0 (traceOf os) l in
-    let as-many : length os ≡ n = length-outcomesOf (fresh (sizesIn file)) (scheduleIn file) ∙ schedule-length file s n accepted in
     ap (λ k. linesFromTrace k trace) (sym as-many)
     ∙ concatMap-lines (lineFromTrace (length os) trace) os 0
-    (λ i there. ap (λ k. lineFromTrace (length os) trace k) (zero-add i) ∙ ap (λ line. threeNumbers i (line .number) (line .value)) (lineIn-written os l i (file-values-fit file bytes) there) ∙ ap (λ k. entryLine k (getD os i Moved)) (sym (zero-add i)))
+    (λ i there. ap (λ k. lineFromTrace (length os) trace k) (zero-add i) ∙ ap (λ line. threeNumbers i (line .number) (line .value)) (lineIn-written os l i fit there) ∙ ap (λ k. entryLine k (getD os i Moved)) (sym (zero-add i)))
 
 -- ── The place of a refusal ──────────────────────────────────────────────────────────────────────────────────────────────────
 
@@ -70,8 +66,11 @@ entries-fit file bytes = ltb-true (entriesIn file) 4294967296 (all-getD (λ n. l
 pub place-fits : (file : List ℕ) → allBelow 256 file ≡ true → (r : Refusal) → readFile file ≡ reading.Refused r → placeOf r < 4294967296
 place-fits file bytes r told = go r (subst (λ a. Refuses (fileHas file) (refusalInReading a)) told (reader-refuses-faults file))
   where
-    of-entry : (at : ℕ) (b : Bool) → (ltb at (entriesIn file) && b) ≡ true → at < 4294967296
-    of-entry at b p = omega (arith, ltb-true at (entriesIn file) (and-left (ltb at (entriesIn file)) b p), entries-fit file bytes)
+    kinds : List ℕ
+    kinds = kindsIn (entriesIn file) file
+
+    of-entry : (at : ℕ) (b : Bool) → (ltb at (length kinds) && b) ≡ true → at < 4294967296
+    of-entry at b p = omega (arith, ltb-true at (length kinds) (and-left (ltb at (length kinds)) b p), length-kindsIn (entriesIn file) file, entries-fit file bytes)
 
     go : (r : Refusal) → fileHas file (numberOf r) (placeOf r) ≡ true → placeOf r < 4294967296
     go (Size place) p = omega (arith, inside (sizesKept (sizesIn file) (entriesIn file)) place p)

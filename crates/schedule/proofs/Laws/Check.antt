@@ -32,7 +32,7 @@ pub failIf-failed : (fault : Bool) (q : Refusal) {r : Refusal} → failIf fault 
 failIf-failed true q e = (refl, cc)
 failIf-failed false q e = absurd (not-both (sym e))
 
--- where none failed, each passed; and the refusal that is given, one of them failed with
+-- where none failed, each passed; and the refusal that is given, one of them failed with, and those before it passed
 
 pub first-passed : (l : List Check) → first l ≡ Passed → (i : ℕ) → getD l i Passed ≡ Passed
 first-passed [] e i = refl
@@ -40,10 +40,15 @@ first-passed (Passed ∷ l) e zero = refl
 first-passed (Passed ∷ l) e (suc i) = first-passed l e i
 first-passed (Failed r ∷ l) e i = absurd (not-both e)
 
-pub first-failed : (l : List Check) (r : Refusal) → first l ≡ Failed r → (i : ℕ) × ((i < length l) × (getD l i Passed ≡ Failed r))
+pub first-failed : (l : List Check) (r : Refusal) → first l ≡ Failed r
+    → (i : ℕ) × ((i < length l) × ((getD l i Passed ≡ Failed r) × ((j : ℕ) → j < i → getD l j Passed ≡ Passed)))
 first-failed [] r e = absurd (not-both (sym e))
-first-failed (Passed ∷ l) r e = let found = first-failed l r e in (suc (found .0), (suc-le-suc (found .1 .0), found .1 .1))
-first-failed (Failed q ∷ l) r e = (zero, (zero-lt-suc (length l), e))
+first-failed (Passed ∷ l) r e = let found = first-failed l r e in (suc (found .0), (suc-le-suc (found .1 .0), (found .1 .1 .0, before (found .0) (found .1 .1 .1))))
+  where
+    before : (i : ℕ) → ((j : ℕ) → j < i → getD l j Passed ≡ Passed) → (j : ℕ) → j < suc i → getD (Passed ∷ l) j Passed ≡ Passed
+    before i each zero h = refl
+    before i each (suc j) h = each j (le-of-suc-le-suc h)
+first-failed (Failed q ∷ l) r e = (zero, (zero-lt-suc (length l), (e, λ j h. absurd (not-suc-le-zero h))))
 
 -- checks behind others count where these passed
 pub first-append : (s t : List Check) → first s ≡ Passed → first (s ++ t) ≡ first t
@@ -57,7 +62,7 @@ first-append-failed (Passed ∷ s) t r e = first-append-failed s t r e
 first-append-failed (Failed q ∷ s) t r e = e
 
 -- one check decides by itself
-first-one : (c : Check) → first (c ∷ []) ≡ c
+pub first-one : (c : Check) → first (c ∷ []) ≡ c
 first-one Passed = refl
 first-one (Failed r) = refl
 
@@ -72,7 +77,7 @@ rangeFrom-add k (suc m) j =
     rw more (ap (λ l. k ∷ l) (rangeFrom-add (suc k) m j ∙ ap (λ n. rangeFrom (suc k) m ++ rangeFrom n j) from))
 
 -- what a function makes of the number at a place
-getD-map-rangeFrom : {A : Type 0} (f : ℕ → A) (d : A) (k n i : ℕ) → i < n → getD (map f (rangeFrom k n)) i d ≡ f (k + i)
+pub getD-map-rangeFrom : {A : Type 0} (f : ℕ → A) (d : A) (k n i : ℕ) → i < n → getD (map f (rangeFrom k n)) i d ≡ f (k + i)
 getD-map-rangeFrom f d k zero i h = absurd (not-suc-le-zero h)
 getD-map-rangeFrom f d k (suc n) zero h = rw add-zero
 getD-map-rangeFrom f d k (suc n) (suc i) h = getD-map-rangeFrom f d (suc k) n i (le-of-suc-le-suc h) ∙ ap f (omega arith)
@@ -85,16 +90,16 @@ module _ (f : ℕ → Check) where
   length-checks : (n : ℕ) → length (map f (range n)) ≡ n
   length-checks n = length-map (range n) f ∙ length-range n
 
-  -- where none failed, each passed; and the refusal that is given, one of them failed with
+  -- where none failed, each passed; and the refusal that is given, one of them failed with, and those before it passed
 
   pub range-passed : (n : ℕ) → first (map f (range n)) ≡ Passed → (i : ℕ) → i < n → f i ≡ Passed
   range-passed n e i h = sym (at-range n i h) ∙ first-passed (map f (range n)) e i
 
-  pub range-failed : (n : ℕ) (r : Refusal) → first (map f (range n)) ≡ Failed r → (i : ℕ) × ((i < n) × (f i ≡ Failed r))
+  pub range-failed : (n : ℕ) (r : Refusal) → first (map f (range n)) ≡ Failed r → (i : ℕ) × ((i < n) × ((f i ≡ Failed r) × ((j : ℕ) → j < i → f j ≡ Passed)))
   range-failed n r e =
       let found = first-failed (map f (range n)) r e in
       let below : found .0 < n = omega (arith, length-checks n, found .1 .0) in
-      (found .0, (below, sym (at-range n (found .0) below) ∙ found .1 .1))
+      (found .0, (below, (sym (at-range n (found .0) below) ∙ found .1 .1 .0, λ j h. sym (at-range n j (omega arith)) ∙ found .1 .1 .1 j h)))
 
   -- a loop's turn: where all before passed, one more decides
   pub first-more : (i : ℕ) → first (map f (range i)) ≡ Passed → first (map f (range (i + 1))) ≡ f i
@@ -103,6 +108,11 @@ module _ (f : ℕ → Check) where
       ∙ ap first (map-append f (range i) (i ∷ []))
       ∙ first-append (map f (range i)) (f i ∷ []) e
       ∙ first-one (f i)
+
+  -- .. so that none failed where each passed
+  pub range-all : (n : ℕ) → ((i : ℕ) → i < n → f i ≡ Passed) → first (map f (range n)) ≡ Passed
+  range-all zero each = refl
+  range-all (suc n) each = rw add-one at (first-more n (range-all n (λ i h. each i (omega arith))) ∙ each n (omega arith))
 
   -- .. and if it fails, it is the first of all
   pub first-stops : (n i : ℕ) (r : Refusal) → i < n → first (map f (range i)) ≡ Passed → f i ≡ Failed r → first (map f (range n)) ≡ Failed r

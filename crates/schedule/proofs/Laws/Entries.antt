@@ -1,26 +1,26 @@
 -- Laws of entries: what the check of one says, where it lies in two arrays, and a search for the first faulty one.
 use mathlib.Core.Path.{_≡_, refl, ap, subst, sym, _∙_}
-use mathlib.Core.Bool.{Bool, true, false, cond}
-use mathlib.Core.List.{List, map}
+use mathlib.Core.Bool.{Bool, true, false, cond, not}
+use mathlib.Core.List.{List, [], _∷_, map}
 use Prim.Native.Nat.{ℕ, zero, suc, _+_, _*_, _/_, _≤_, _<_, zero-le}
 use native.Mathlib.Omega.{arith}
 use lib.Dec.{eqb, ltb}
-use lib.ListN.{length, drop, getD, take, List·getD-eq-default}
-use borrow.Author.Tests.{eqb-true, le-ltb, lt-ltb, ltb-false, ltb-true}
+use lib.ListN.{length, getD, List·getD-eq-default}
+use borrow.Author.Tests.{eq-eqb, eqb-true, le-ltb, lt-ltb, ltb-false, ltb-true, ne-eqb}
 use Rattle.terms.specs.declared.kinds.Meaning.the-variants.{Refused}
 use Rattle.terms.specs.Kinds.{allowedIf, entryOf, kindOf, operandOf}
 use Rattle.terms.proofs.Laws.Tests.{cond-map}
 use Rattle.terms.specs.Lists.{range}
 use Rattle.terms.proofs.Laws.Lists.{all-each}
 use Rattle.schedule.specs.Types.{BeginPut, BeginSteal, BeginTake, ClientStore, Drain, Entry, ThiefStep, WorkerStep}
-use Rattle.schedule.specs.Types.{Allowed, Check, Failed, Kind, Meaning, Passed, Refusal, Short, Who}
+use Rattle.schedule.specs.Types.{Allowed, Check, Failed, Kind, Meaning, Passed, Refusal, Short, Sizes, Who}
 use Rattle.number.specs.Number.{wordAt}
 use Rattle.number.proofs.Laws.Words.{word-there}
-use Rattle.schedule.specs.Check.{first}
+use Rattle.schedule.specs.Check.{failIf, first}
 use Rattle.schedule.specs.Format.{allBelow, wordsIn}
-use Rattle.schedule.specs.Entries.{checkEntries, checkOf, entryAt}
+use Rattle.schedule.specs.Entries.{checkEntries, checkOf, checkParts, entryAt}
 use Rattle.schedule.specs.Faults.{operandAllowed}
-use Rattle.schedule.proofs.Laws.Check.{first-more, first-stops, not-both, range-passed}
+use Rattle.schedule.proofs.Laws.Check.{first-more, first-one, first-stops, not-both, range-passed}
 use Rattle.schedule.proofs.Laws.Format.{getD-words, length-wordsIn}
 
 -- ── What the check of an entry says ─────────────────────────────────────────────────────────────────────────────────────────
@@ -81,28 +81,28 @@ module _ (thieves place : ℕ) where
   entry-as-read (suc (suc (suc (suc (suc (suc zero)))))) operand f p = thief-operand operand (ThiefStep operand) refl p
   entry-as-read (suc (suc (suc (suc (suc (suc (suc kind))))))) operand f p = absurd (not-allowed (sym p))
 
-module _ (thieves : ℕ) (kinds operands : List ℕ) where
+module _ (s : Sizes) (kinds operands : List ℕ) where
   -- the entry at a place that both arrays have
   pub entryAt-both : (at : ℕ) → at < length kinds → at < length operands
-      → entryAt thieves kinds operands at ≡ entryOf thieves at (getD kinds at 0) (getD operands at 0)
+      → entryAt s kinds operands at ≡ entryOf (s .thieves) at (getD kinds at 0) (getD operands at 0)
   entryAt-both at k o = rw (lt-ltb at (length kinds) k, lt-ltb at (length operands) o)
 
   -- the check of the entry at a place of two arrays: SHORT, where the second ends before it
   pub entryAt-check : (at : ℕ) → at < length kinds
-      → checkOf (entryAt thieves kinds operands at)
+      → checkOf (entryAt s kinds operands at)
       ≡ cond (ltb at (length operands))
       (cond (ltb 6 (getD kinds at 0)) (Failed (Kind at))
-      (cond (operandAllowed thieves (getD kinds at 0) (getD operands at 0)) Passed (Failed (Who at))))
+      (cond (operandAllowed (s .thieves) (getD kinds at 0) (getD operands at 0)) Passed (Failed (Who at))))
       (Failed Short)
   entryAt-check at h =
       rw (lt-ltb at (length kinds) h)
-      (sym (cond-map checkOf (ltb at (length operands)) (sym (entry-check thieves at (getD kinds at 0) (getD operands at 0))) refl))
+      (sym (cond-map checkOf (ltb at (length operands)) (sym (entry-check (s .thieves) at (getD kinds at 0) (getD operands at 0))) refl))
 
   -- where it passed, the kind is none past 6, and the operand is allowed
-  pub entry-passed : (at : ℕ) → at < length kinds → checkOf (entryAt thieves kinds operands at) ≡ Passed
-      → (ltb 6 (getD kinds at 0) ≡ false) × (operandAllowed thieves (getD kinds at 0) (getD operands at 0) ≡ true)
+  pub entry-passed : (at : ℕ) → at < length kinds → checkOf (entryAt s kinds operands at) ≡ Passed
+      → (ltb 6 (getD kinds at 0) ≡ false) × (operandAllowed (s .thieves) (getD kinds at 0) (getD operands at 0) ≡ true)
   entry-passed at h e =
-      go (ltb at (length operands)) (ltb 6 (getD kinds at 0)) (operandAllowed thieves (getD kinds at 0) (getD operands at 0))
+      go (ltb at (length operands)) (ltb 6 (getD kinds at 0)) (operandAllowed (s .thieves) (getD kinds at 0) (getD operands at 0))
       (sym (entryAt-check at h) ∙ e)
     where
       go : (there past allowed : Bool) → cond there (cond past (Failed (Kind at)) (cond allowed Passed (Failed (Who at)))) (Failed Short) ≡ Passed
@@ -114,11 +114,11 @@ module _ (thieves : ℕ) (kinds operands : List ℕ) where
 
   -- where all entries passed, each did, and its kind is a byte
 
-  pub entries-passed : checkEntries thieves kinds operands ≡ Passed
-      → (at : ℕ) → at < length kinds → checkOf (entryAt thieves kinds operands at) ≡ Passed
-  entries-passed e = range-passed (λ at. checkOf (entryAt thieves kinds operands at)) (length kinds) e
+  pub entries-passed : checkEntries s kinds operands ≡ Passed
+      → (at : ℕ) → at < length kinds → checkOf (entryAt s kinds operands at) ≡ Passed
+  entries-passed e = range-passed (λ at. checkOf (entryAt s kinds operands at)) (length kinds) e
 
-  pub entries-bytes : checkEntries thieves kinds operands ≡ Passed → allBelow 256 kinds ≡ true
+  pub entries-bytes : checkEntries s kinds operands ≡ Passed → allBelow 256 kinds ≡ true
   entries-bytes e = all-each (λ n. ltb n 256) kinds 0 (λ i. byte i (ltb i (length kinds)) refl)
     where
       byte : (i : ℕ) (inside : Bool) → ltb i (length kinds) ≡ inside → ltb (getD kinds i 0) 256 ≡ true
@@ -129,27 +129,37 @@ module _ (thieves : ℕ) (kinds operands : List ℕ) where
 
 -- ── One entry of two arrays ─────────────────────────────────────────────────────────────────────────────────────────────────
 
-module _ (thieves : ℕ) (kinds operands : List ℕ) where
+module _ (s : Sizes) (kinds operands : List ℕ) where
   -- an entry that one of the arrays does not have
 
-  pub entryAt-no-kind : (at : ℕ) → length kinds ≤ at → entryAt thieves kinds operands at ≡ Refused Short
+  pub entryAt-no-kind : (at : ℕ) → length kinds ≤ at → entryAt s kinds operands at ≡ Refused Short
   entryAt-no-kind at past = rw (le-ltb at (length kinds) past)
 
-  pub entryAt-no-operand : (at : ℕ) → at < length kinds → length operands ≤ at → entryAt thieves kinds operands at ≡ Refused Short
+  pub entryAt-no-operand : (at : ℕ) → at < length kinds → length operands ≤ at → entryAt s kinds operands at ≡ Refused Short
   entryAt-no-operand at there past = rw (lt-ltb at (length kinds) there, le-ltb at (length operands) past)
 
 -- an entry whose operand lies in four bytes
-pub entryAt-bytes : (thieves : ℕ) (kinds bytes : List ℕ) (at : ℕ) → at < length kinds → at < length bytes / 4
-    → entryAt thieves kinds (wordsIn bytes) at ≡ entryOf thieves at (getD kinds at 0) (wordAt bytes (4 * at))
-entryAt-bytes thieves kinds bytes at there inside =
-    entryAt-both thieves kinds (wordsIn bytes) at there (rw length-wordsIn inside)
-    ∙ ap (entryOf thieves at (getD kinds at 0)) (getD-words (length bytes / 4) at bytes inside ∙ sym (word-there bytes (4 * at) (omega arith)))
+pub entryAt-bytes : (s : Sizes) (kinds bytes : List ℕ) (at : ℕ) → at < length kinds → at < length bytes / 4
+    → entryAt s kinds (wordsIn bytes) at ≡ entryOf (s .thieves) at (getD kinds at 0) (wordAt bytes (4 * at))
+entryAt-bytes s kinds bytes at there inside =
+    entryAt-both s kinds (wordsIn bytes) at there (rw length-wordsIn inside)
+    ∙ ap (entryOf (s .thieves) at (getD kinds at 0)) (getD-words (length bytes / 4) at bytes inside ∙ sym (word-there bytes (4 * at) (omega arith)))
+
+-- the check of two parts: where they belong together it is that of the entries, and else SHORT
+module _ (s : Sizes) (kinds bytes : List ℕ) where
+  pub parts-together : length bytes ≡ 4 * length kinds → checkParts s kinds bytes ≡ checkEntries s kinds (wordsIn bytes)
+  parts-together whole =
+      (λ i. first (failIf (not (eq-eqb (length bytes) (4 * length kinds) whole i)) Short ∷ checkEntries s kinds (wordsIn bytes) ∷ []))
+      ∙ first-one (checkEntries s kinds (wordsIn bytes))
+
+  pub parts-apart : (length bytes ≡ 4 * length kinds → ⊥) → checkParts s kinds bytes ≡ Failed Short
+  parts-apart apart = λ i. first (failIf (not (ne-eqb (length bytes) (4 * length kinds) apart i)) Short ∷ checkEntries s kinds (wordsIn bytes) ∷ [])
 
 -- ── A search for the first faulty entry ─────────────────────────────────────────────────────────────────────────────────────
 
-module _ (thieves : ℕ) (kinds operands : List ℕ) where
+module _ (s : Sizes) (kinds operands : List ℕ) where
   abbrev check-at : ℕ → Check
-  check-at at = checkOf (entryAt thieves kinds operands at)
+  check-at at = checkOf (entryAt s kinds operands at)
 
   -- no entry before this one is faulty
   abbrev pub NoneBefore : ℕ → Type 0
@@ -158,14 +168,14 @@ module _ (thieves : ℕ) (kinds operands : List ℕ) where
   pub none-before-first : NoneBefore 0
   none-before-first = (zero-le, refl)
 
-  pub none-before-next : (at : ℕ) (entry : Entry) → NoneBefore at → at < length kinds → entryAt thieves kinds operands at ≡ Allowed entry → NoneBefore (at + 1)
+  pub none-before-next : (at : ℕ) (entry : Entry) → NoneBefore at → at < length kinds → entryAt s kinds operands at ≡ Allowed entry → NoneBefore (at + 1)
   none-before-next at entry none there allowed = (omega arith, first-more check-at at (none .1) ∙ ap checkOf allowed)
 
-  pub none-at-all : (at : ℕ) → NoneBefore at → length kinds ≤ at → Passed ≡ checkEntries thieves kinds operands
+  pub none-at-all : (at : ℕ) → NoneBefore at → length kinds ≤ at → Passed ≡ checkEntries s kinds operands
   none-at-all at none past =
       let whole : at ≡ length kinds = omega (arith, none .0) in
       sym (subst (λ n. first (map check-at (range n)) ≡ Passed) whole (none .1))
 
-  pub first-faulty : (at : ℕ) (r : Refusal) → NoneBefore at → at < length kinds → entryAt thieves kinds operands at ≡ Refused r
-      → Failed r ≡ checkEntries thieves kinds operands
+  pub first-faulty : (at : ℕ) (r : Refusal) → NoneBefore at → at < length kinds → entryAt s kinds operands at ≡ Refused r
+      → Failed r ≡ checkEntries s kinds operands
   first-faulty at r none there refused = sym (first-stops check-at (length kinds) at r there (none .1) (ap checkOf refused))

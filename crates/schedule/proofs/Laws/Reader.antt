@@ -1,6 +1,6 @@
 -- Laws of reading: where in a file its sizes and arrays lie, which check decides, and what an answer says of the checks.
 use mathlib.Core.Path.{_≡_, refl, ap, sym, _∙_}
-use mathlib.Core.Bool.{false, not}
+use mathlib.Core.Bool.{false, not, true}
 use mathlib.Core.List.{List, [], _∷_}
 use Prim.Native.Nat.{ℕ, _+_, _-_, _*_, _≤_, _<_}
 use native.Mathlib.Nat.{add-sub-cancel-left, le-of-eq, zero-add}
@@ -8,17 +8,19 @@ use native.Mathlib.Omega.{arith}
 use lib.Dec.{eqb, lit<, ltb}
 use lib.ListN.{length, drop, getD, length-drop, take}
 use lib.Seq.{take-all}
-use borrow.Author.Tests.{eq-eqb, eqb-true, le-ltb, lt-ltb, ne-eqb, not-false}
-use Rattle.schedule.specs.Types.{Accepted, Check, Failed, Passed, Refusal, Short, Sizes}
+use borrow.Author.Tests.{eq-eqb, eqb-true, le-leb, le-ltb, lt-ltb, ne-eqb, not-false}
+use Rattle.terms.proofs.Laws.Tests.{by-test}
+use Rattle.schedule.specs.Types.{Accepted, Check, Failed, Passed, Reading, Refusal, Short, Sizes}
 use Rattle.schedule.specs.declared.reader.Reading.the-variants.{Refused}
 use Rattle.number.specs.Number.{wordAt}
 use Rattle.number.proofs.Laws.Words.{word-there}
 use Rattle.schedule.specs.Check.{checkRanges, failIf, first}
 use Rattle.schedule.specs.Format.{entriesIn, kindsIn, operandsIn, sizeIn, sizesIn, wordsIn}
-use Rattle.schedule.specs.Entries.{checkEntries}
-use Rattle.schedule.specs.Reader.{behind, readFile, readingChecks, readingOf}
-use Rattle.schedule.proofs.Laws.Check.{failIf-passed, first-failed, first-passed}
-use Rattle.schedule.proofs.Laws.Format.{getD-words, kindsIn-part, operandsIn-part}
+use Rattle.schedule.specs.Entries.{checkEntries, checkParts}
+use Rattle.schedule.specs.Reader.{behind, holdsKinds, kindPart, operandPart, readFile, readingChecks, readingOf, sizeChecks}
+use Rattle.schedule.proofs.Laws.Check.{failIf-passed, first-append, first-append-failed, first-failed, first-one, first-passed}
+use Rattle.schedule.proofs.Laws.Entries.{parts-together}
+use Rattle.schedule.proofs.Laws.Format.{getD-words, kindsIn-part, length-kindsIn, operandsIn-part}
 
 -- a part of so many elements, and one to the end
 pub part-of-length : (at n : ℕ) (l : List ℕ) → take (at + n - at) (drop at l) ≡ take n (drop at l)
@@ -55,54 +57,109 @@ module _ (file : List ℕ) where
         start = (f ∙ sym (sizeIn-at there 5 (lit< tt))) i;
       }
 
-  -- the two parts from 28 on and from 28 + entries on are the file's arrays
+  -- the two parts of a file whose length is that of so many entries are its arrays
+  module _ (s : Sizes) (n : ℕ) (whole : length file ≡ 28 + 5 * n) where
+    held : holdsKinds file n ≡ true
+    held = le-leb (28 + n) (length file) (omega arith)
 
-  pub kinds-part : (n : ℕ) → 28 + n ≤ length file → take (28 + n - 28) (drop 28 file) ≡ kindsIn n file
-  kinds-part n there = part-of-length 28 n file ∙ sym (kindsIn-part n file there)
+    pub kinds-taken : kindPart file (Accepted s n) ≡ take n (drop 28 file)
+    kinds-taken = by-test _ _ held
 
-  pub operands-part : (n : ℕ) → length file ≡ 28 + 5 * n → wordsIn (take (length file - (28 + n)) (drop (28 + n) file)) ≡ operandsIn n file
-  operands-part n whole = ap wordsIn (part-to-end (28 + n) file) ∙ sym (operandsIn-part n file whole)
+    pub kinds-cut : kindPart file (Accepted s n) ≡ kindsIn n file
+    kinds-cut = kinds-taken ∙ sym (kindsIn-part n file (omega arith))
 
-  pub parts-checked : (s : Sizes) (n : ℕ) → s ≡ sizesIn file → n ≡ entriesIn file → length file ≡ 28 + 5 * n
-      → checkEntries (s .thieves) (take (28 + n - 28) (drop 28 file)) (wordsIn (take (length file - (28 + n)) (drop (28 + n) file)))
-      ≡ checkEntries (sizesIn file .thieves) (kindsIn (entriesIn file) file) (operandsIn (entriesIn file) file)
-  parts-checked s n sizes entries whole =
-      (λ i. checkEntries (s .thieves) (kinds-part n (omega arith) i) (operands-part n whole i)) ∙ (λ i. checkEntries (sizes i .thieves) (kindsIn (entries i) file) (operandsIn (entries i) file))
+    pub operands-drop : operandPart file (Accepted s n) ≡ drop (28 + n) file
+    operands-drop = by-test _ _ held
 
-  -- which check decides, where it is not the last
+    pub operands-cut : wordsIn (operandPart file (Accepted s n)) ≡ operandsIn n file
+    operands-cut = ap wordsIn operands-drop ∙ sym (operandsIn-part n file whole)
 
-  pub read-under-28 : length file < 28 → readFile file ≡ Refused Short
-  read-under-28 under = let none = lt-ltb (length file) 28 under in λ i. readingOf file (first (failIf (none i) Short ∷ drop 1 (readingChecks file)))
+    pub length-kinds-cut : length (kindPart file (Accepted s n)) ≡ n
+    length-kinds-cut = ap length kinds-cut ∙ length-kindsIn n file
+
+    pub length-operands-cut : length (operandPart file (Accepted s n)) ≡ 4 * n
+    length-operands-cut = ap length operands-drop ∙ simp length-drop (omega arith)
+
+    -- .. and the check of the parts is that of the arrays
+    pub parts-checked : checkParts s (kindPart file (Accepted s n)) (operandPart file (Accepted s n)) ≡ checkEntries s (kindsIn n file) (operandsIn n file)
+    parts-checked =
+        parts-together s (kindPart file (Accepted s n)) (operandPart file (Accepted s n)) (length-operands-cut ∙ ap (λ k. 4 * k) (sym length-kinds-cut))
+        ∙ (λ i. checkEntries s (kinds-cut i) (operands-cut i))
+
+-- ── The sizes ───────────────────────────────────────────────────────────────────────────────────────────────────────────────
+
+-- a file is not both accepted and refused
+not-both-read : {s : Sizes} {entries : ℕ} {r : Refusal} → Accepted s entries ≡ Refused r → ⊥
+not-both-read e = let clash : _≡_ {A = ℕ} 0 1 = cc in omega arith
+
+-- what is answered before the entries are looked at
+abbrev pub sizesRead : List ℕ → Reading
+sizesRead file = readingOf file (first (sizeChecks file))
+
+module _ (file : List ℕ) where
+  -- which check of the sizes decides
+
+  pub sizes-under-28 : length file < 28 → sizesRead file ≡ Refused Short
+  sizes-under-28 under = let none = lt-ltb (length file) 28 under in λ i. readingOf file (first (failIf (none i) Short ∷ drop 1 (sizeChecks file)))
 
   module _ (sizes-there : 28 ≤ length file) where
     there : ltb (length file) 28 ≡ false
     there = le-ltb (length file) 28 sizes-there
 
-    pub read-out-of-range : (r : Refusal) → checkRanges (sizesIn file) (entriesIn file) ≡ Failed r → readFile file ≡ Refused r
-    read-out-of-range r out = λ i. readingOf file (first (failIf (there i) Short ∷ out i ∷ drop 2 (readingChecks file)))
+    pub sizes-out-of-range : (r : Refusal) → checkRanges (sizesIn file) (entriesIn file) ≡ Failed r → sizesRead file ≡ Refused r
+    sizes-out-of-range r out = λ i. readingOf file (first (failIf (there i) Short ∷ out i ∷ drop 2 (sizeChecks file)))
 
     module _ (in-range : checkRanges (sizesIn file) (entriesIn file) ≡ Passed) where
-      pub read-short : (length file ≡ 28 + 5 * entriesIn file → ⊥) → readFile file ≡ Refused Short
-      read-short other =
+      pub sizes-short : (length file ≡ 28 + 5 * entriesIn file → ⊥) → sizesRead file ≡ Refused Short
+      sizes-short other =
           let wrong = ne-eqb (length file) (28 + 5 * entriesIn file) other in
-          λ i. readingOf file (first (failIf (there i) Short ∷ in-range i ∷ failIf (not (wrong i)) Short ∷ drop 3 (readingChecks file)))
+          λ i. readingOf file (first (failIf (there i) Short ∷ in-range i ∷ failIf (not (wrong i)) Short ∷ []))
 
-      pub read-faulty : length file ≡ 28 + 5 * entriesIn file → (r : Refusal)
-          → checkEntries (sizesIn file .thieves) (kindsIn (entriesIn file) file) (operandsIn (entriesIn file) file) ≡ Failed r
-          → readFile file ≡ Refused r
-      read-faulty long r faulty =
+      pub sizes-accepted : length file ≡ 28 + 5 * entriesIn file → sizesRead file ≡ Accepted (sizesIn file) (entriesIn file)
+      sizes-accepted long =
           let whole = eq-eqb (length file) (28 + 5 * entriesIn file) long in
-          λ i. readingOf file (first (failIf (there i) Short ∷ in-range i ∷ failIf (not (whole i)) Short ∷ faulty i ∷ []))
+          λ i. readingOf file (first (failIf (there i) Short ∷ in-range i ∷ failIf (not (whole i)) Short ∷ []))
+
+  -- the check of the entries that stand in a file
+  abbrev pub entriesChecked : Check
+  entriesChecked = checkEntries (sizesIn file) (kindsIn (entriesIn file) file) (operandsIn (entriesIn file) file)
+
+  -- what is refused before its entries are looked at is refused; of other files the entries decide
+
+  pub sizes-refused : (r : Refusal) → sizesRead file ≡ Refused r → readFile file ≡ Refused r
+  sizes-refused r e = go (first (sizeChecks file)) refl e
+    where
+      go : (c : Check) → first (sizeChecks file) ≡ c → readingOf file c ≡ Refused r → readFile file ≡ Refused r
+      go Passed found told = absurd (not-both-read told)
+      go (Failed q) found told = ap (readingOf file) (first-append-failed (sizeChecks file) (entriesChecked ∷ []) q found) ∙ told
+
+  -- What a file is whose sizes, and whose length, are right.
+  pub record Sized : Type 0 where
+    pub ranges : checkRanges (sizesIn file) (entriesIn file) ≡ Passed
+    pub long : length file ≡ 28 + 5 * entriesIn file
+
+  sized : checkRanges (sizesIn file) (entriesIn file) ≡ Passed → failIf (not (eqb (length file) (28 + 5 * entriesIn file))) Short ≡ Passed → Sized
+  sized ranges as-long =
+      record { ranges = ranges; long = eqb-true (length file) (28 + 5 * entriesIn file) (not-false (eqb (length file) (28 + 5 * entriesIn file)) (failIf-passed _ Short as-long)) }
+
+  pub sizes-decide : (s : Sizes) (n : ℕ) → sizesRead file ≡ Accepted s n
+      → (s ≡ sizesIn file) × ((n ≡ entriesIn file) × (Sized × (readFile file ≡ readingOf file entriesChecked)))
+  sizes-decide s n e = go (first (sizeChecks file)) refl e
+    where
+      go : (c : Check) → first (sizeChecks file) ≡ c → readingOf file c ≡ Accepted s n
+          → (s ≡ sizesIn file) × ((n ≡ entriesIn file) × (Sized × (readFile file ≡ readingOf file entriesChecked)))
+      go Passed found told =
+          let each = first-passed (sizeChecks file) found in
+          (cc, (cc, (sized (each 1) (each 2), ap (readingOf file) (first-append (sizeChecks file) (entriesChecked ∷ []) found ∙ first-one entriesChecked))))
+      go (Failed q) found told = absurd (not-both-read (sym told))
+
+-- ── The whole file ──────────────────────────────────────────────────────────────────────────────────────────────────────────
 
 -- What a file is that passes every check.
 pub record Readable (file : List ℕ) : Type 0 where
   pub ranges : checkRanges (sizesIn file) (entriesIn file) ≡ Passed
   pub long : length file ≡ 28 + 5 * entriesIn file
-  pub each : checkEntries (sizesIn file .thieves) (kindsIn (entriesIn file) file) (operandsIn (entriesIn file) file) ≡ Passed
-
--- a file is not both accepted and refused
-not-both-read : {s : Sizes} {entries : ℕ} {r : Refusal} → Accepted s entries ≡ Refused r → ⊥
-not-both-read e = let clash : _≡_ {A = ℕ} 0 1 = cc in omega arith
+  pub each : entriesChecked file ≡ Passed
 
 module _ (file : List ℕ) where
   -- it is accepted
@@ -121,8 +178,8 @@ module _ (file : List ℕ) where
           → (s ≡ sizesIn file) × ((entries ≡ entriesIn file) × Readable file)
       go Passed passed told =
           let each = first-passed (readingChecks file) passed in
-          let as-long = not-false (eqb (length file) (28 + 5 * entriesIn file)) (failIf-passed _ Short (each 2)) in
-          (cc, (cc, record { ranges = each 1; long = eqb-true (length file) (28 + 5 * entriesIn file) as-long; each = each 3 }))
+          let right = sized file (each 1) (each 2) in
+          (cc, (cc, record { ranges = right .ranges; long = right .long; each = each 3 }))
       go (Failed q) passed told = absurd (not-both-read (sym told))
 
   -- what a refusal tells, one of the checks failed with
@@ -132,12 +189,8 @@ module _ (file : List ℕ) where
       go : (c : Check) → first (readingChecks file) ≡ c → readingOf file c ≡ Refused r
           → (i : ℕ) × (getD (readingChecks file) i Passed ≡ Failed r)
       go Passed found told = absurd (not-both-read told)
-      go (Failed q) found told = let failed = first-failed (readingChecks file) r (found ∙ cc) in (failed .0, failed .1 .1)
+      go (Failed q) found told = let failed = first-failed (readingChecks file) r (found ∙ cc) in (failed .0, failed .1 .1 .0)
 
-  -- an accepted file is as long as its number of entries says, and its kinds lie within it
-
+  -- an accepted file is as long as its number of entries says
   pub accepted-long : (s : Sizes) (entries : ℕ) → readFile file ≡ Accepted s entries → length file ≡ 28 + 5 * entries
   accepted-long s entries accepted = let read = accepted-readable s entries accepted in omega (arith, read .1 .0, read .1 .1 .long)
-
-  pub accepted-holds : (s : Sizes) (entries : ℕ) → readFile file ≡ Accepted s entries → 28 + entries ≤ length file
-  accepted-holds s entries accepted = omega (arith, accepted-long s entries accepted)

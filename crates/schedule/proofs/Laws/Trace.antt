@@ -41,12 +41,6 @@ length-values os = length-wordBytes (map valueOf os) ∙ ap (λ k. 4 * k) (lengt
 length-numbered : (n : ℕ) (l : List ℕ) → 4 + 5 * n ≤ length l → (numbers : List ℕ) → length numbers ≤ n → length (overwritten 4 numbers l) ≡ length l
 length-numbered n l room numbers few = length-overwritten 4 numbers l (omega arith)
 
-pub length-traceSoFar : (n : ℕ) (os : List Outcome) (l : List ℕ) → length os ≤ n → 4 + 5 * n ≤ length l → length (traceSoFar n os l) ≡ length l
-length-traceSoFar n os l few room =
-    let numbered = overwritten 4 (map numberOf os) l in
-    let long = length-numbered n l room (map numberOf os) (omega (arith, length-map os numberOf)) in
-    length-overwritten (4 + n) (wordBytes (map valueOf os)) numbered (omega (arith, length-values os)) ∙ long
-
 -- one outcome more: its number right behind the numbers, its value right behind the values
 pub traceSoFar-more : (n : ℕ) (os : List Outcome) (o : Outcome) (l : List ℕ) → length os < n → 4 + 5 * n ≤ length l
     → overwritten (4 + n + 4 * length os) (littleEndian 4 (valueOf o)) (overwritten (4 + length os) (numberOf o ∷ []) (traceSoFar n os l))

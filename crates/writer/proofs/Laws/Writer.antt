@@ -33,10 +33,10 @@ module _ (s : Sizes) (kinds operands : List ℕ) (room : ℕ) where
       same : eqb (length kinds) (length operands) ≡ true
       same = eq-eqb (length kinds) (length operands) parallel
 
-      pub write-faulty : (r : Refusal) → checkEntries (s .thieves) kinds operands ≡ Failed r → checkWriting s kinds operands room ≡ Failed r
+      pub write-faulty : (r : Refusal) → checkEntries s kinds operands ≡ Failed r → checkWriting s kinds operands room ≡ Failed r
       write-faulty r faulty = λ i. first (in-range i ∷ failIf (not (same i)) Short ∷ faulty i ∷ drop 3 (writingChecks s kinds operands room))
 
-      pub write-no-room : checkEntries (s .thieves) kinds operands ≡ Passed → room < 28 + 5 * length kinds → checkWriting s kinds operands room ≡ Failed Room
+      pub write-no-room : checkEntries s kinds operands ≡ Passed → room < 28 + 5 * length kinds → checkWriting s kinds operands room ≡ Failed Room
       write-no-room none under =
           let small = lt-ltb room (28 + 5 * length kinds) under in
           λ i. first (in-range i ∷ failIf (not (same i)) Short ∷ none i ∷ failIf (small i) Room ∷ [])
@@ -45,7 +45,7 @@ module _ (s : Sizes) (kinds operands : List ℕ) (room : ℕ) where
 pub record Writable (s : Sizes) (kinds operands : List ℕ) (room : ℕ) : Type 0 where
   pub ranges : checkRanges s (length kinds) ≡ Passed
   pub parallel : length kinds ≡ length operands
-  pub each : checkEntries (s .thieves) kinds operands ≡ Passed
+  pub each : checkEntries s kinds operands ≡ Passed
   pub fits : 28 + 5 * length kinds ≤ room
 
 -- nothing is both written and refused
@@ -88,7 +88,7 @@ module _ (s : Sizes) (kinds operands : List ℕ) (room : ℕ) where
       go : (c : Check) → checkWriting s kinds operands room ≡ c → writingOf (28 + 5 * length kinds) c ≡ Refused r
           → (i : ℕ) × (getD (writingChecks s kinds operands room) i Passed ≡ Failed r)
       go Passed found told = absurd (not-both-written told)
-      go (Failed q) found told = let failed = first-failed (writingChecks s kinds operands room) r (found ∙ cc) in (failed .0, failed .1 .1)
+      go (Failed q) found told = let failed = first-failed (writingChecks s kinds operands room) r (found ∙ cc) in (failed .0, failed .1 .1 .0)
 
 -- what has passed all checks can be written
 pub passed-writable : (s : Sizes) (kinds operands : List ℕ) (room : ℕ) → checkWriting s kinds operands room ≡ Passed → Writable s kinds operands room

@@ -4,7 +4,7 @@
 
 pub mod row;
 
-use reference::Sizes;
+use reference::{Refusal, Sizes};
 
 pub const SIZES: Sizes = Sizes {
     slots: 4,
@@ -14,6 +14,12 @@ pub const SIZES: Sizes = Sizes {
     thieves: 1,
     start: 0,
 };
+
+pub const SHORT: Refusal = refusal(2, 0);
+
+pub const fn refusal(number: u32, place: u32) -> Refusal {
+    Refusal { number, place }
+}
 
 /// A schedule file of kind/operand pairs, put together without the writer.
 pub fn file(sizes: Sizes, entries: &[(u8, u32)]) -> Vec<u8> {

@@ -3,12 +3,12 @@ use mathlib.Core.Path.{ap, subst, sym, _∙_}
 use Prim.Native.Nat.{ℕ, _+_, _*_, _≤_}
 use native.Mathlib.Omega.{arith}
 use borrow.Author.Needs.{needs}
-use lib.ListN.{replicate}
+use lib.ListN.{length, replicate}
 use Rattle.comparison.specs.Comparison.{linesFrom}
-use Rattle.comparison.proofs.Laws.Alike.{lines-of-file, same-answers}
+use Rattle.comparison.proofs.Laws.Alike.{lines-of-run, same-runs}
+use Rattle.schedule.specs.Format.{wordsIn}
 use Rattle.schedule.proofs.Laws.Bytes.{each-below}
-use Rattle.schedule.proofs.Laws.Reader.{accepted-long}
-use Rattle.schedule.proofs.Laws.Run.{longest-after, longest-fits, parts-obeyed}
+use Rattle.schedule.proofs.Laws.Run.{fits-room, longest-fits, longest-put, parts-values-fit}
 use Rattle.comparison.proofs.likeness.same_runs.Statement.{statement}
 use Rattle.comparison.proofs.likeness.same_runs.Tie as tie
 
@@ -16,35 +16,33 @@ same-for-all-requires : tie.Need-same-for-all-requires
 same-for-all-requires c κs =
     let ran = c .before .before .before in
     let first = ran .before .before .before in
-    let start = first .before .before .before .before in
+    let start = first .before .before .before .before .before .before in
     let a = start .args in
-    let parts = parts-obeyed (a .file .now) (a .sizes) (a .entries) (start .pre .0) in
-    let other-parts = parts-obeyed (a .other .now) (a .sizes) (a .others) (start .pre .1) in (
-      (
-        accepted-long (a .file .now) (a .sizes) (a .entries) (start .pre .0),
-        subst (λ k. 4 + 5 * a .entries ≤ k) (sym (first .run .kept .1 .0)) (longest-fits (a .file .now) (a .sizes) (a .entries) (start .pre .0)),
-        parts .few,
-      ),
-      (
-        accepted-long (a .other .now) (a .sizes) (a .others) (start .pre .1),
-        subst (λ k. 4 + 5 * a .others ≤ k) (sym (ran .run2 .kept .1 .0)) (longest-fits (a .other .now) (a .sizes) (a .others) (start .pre .1)),
-        other-parts .few,
-      ),
+    let zeros = replicate {A = ℕ} 20484 0 in
+    let n = length (a .kinds .now) in
+    let m = length (a .others .now) in (
+      (subst (λ k. 4 + 5 * n ≤ k) (sym (first .obey-entries .kept .1 .1 .1 .0)) (fits-room n (length zeros) (longest-fits n (start .pre .0))), start .pre .0),
+      (subst (λ k. 4 + 5 * m ≤ k) (sym (ran .obey-entries2 .kept .1 .1 .1 .0)) (fits-room m (length zeros) (longest-fits m (start .pre .1))), start .pre .1),
     )
 
 returns : tie.Need-returns
 returns c =
     let ran = c .before .before .before .before in
     let first = ran .before .before .before in
-    let start = first .before .before .before .before in
+    let known = first .before .before in
+    let start = known .before .before .before .before in
     let a = start .args in
     let zeros = replicate {A = ℕ} 20484 0 in
-    let bytes = each-below 256 (a .file .now) (λ i. omega (arith, first .before .before .before .shared-slice-known .given i)) in
-    let other-bytes = each-below 256 (a .other .now) (λ i. omega (arith, first .before .before .shared-slice-known2 .given i)) in
+    let operands = wordsIn (a .operands .now) in
+    let other-operands = wordsIn (a .other-operands .now) in
+    let bytes = each-below 256 (a .operands .now) (λ i. omega (arith, known .before .before .shared-slice-known2 .given i)) in
+    let other-bytes = each-below 256 (a .other-operands .now) (λ i. omega (arith, known .shared-slice-known4 .given i)) in
+    let trace = first .obey-entries .ensures .1 ∙ longest-put (a .sizes) (a .kinds .now) operands (start .pre .0) in
+    let other-trace = ran .obey-entries2 .ensures .1 ∙ longest-put (a .sizes) (a .others .now) other-operands (start .pre .1) in
     c .same-for-all .ensures
-    ∙ same-answers (a .sizes .thieves) (a .entries) (a .file .now) (first .run .last .1 .0) (a .others) (a .other .now) (ran .run2 .last .1 .0)
-    (λ party. ap (λ t. linesFrom party (a .entries) (a .file .now) t 0) (longest-after (a .file .now) (a .sizes) (a .entries) (start .pre .0) (first .run .ensures .1 .0)) ∙ lines-of-file (a .file .now) zeros (a .sizes) (a .entries) (start .pre .0) bytes party)
-    (λ party. ap (λ t. linesFrom party (a .others) (a .other .now) t 0) (longest-after (a .other .now) (a .sizes) (a .others) (start .pre .1) (ran .run2 .ensures .1 .0)) ∙ lines-of-file (a .other .now) zeros (a .sizes) (a .others) (start .pre .1) other-bytes party)
+    ∙ same-runs (a .sizes) (a .kinds .now) operands (first .obey-entries .last .1 .1 .1 .0) (a .others .now) other-operands (ran .obey-entries2 .last .1 .1 .1 .0)
+    (λ party. ap (λ t. linesFrom party (a .sizes) (a .kinds .now) operands t 0) trace ∙ lines-of-run party (a .sizes) (a .kinds .now) operands zeros (parts-values-fit (a .sizes) (a .kinds .now) (a .operands .now) bytes))
+    (λ party. ap (λ t. linesFrom party (a .sizes) (a .others .now) other-operands t 0) other-trace ∙ lines-of-run party (a .sizes) (a .others .now) other-operands zeros (parts-values-fit (a .sizes) (a .others .now) (a .other-operands .now) other-bytes))
 
 pub same-runs-spec : {M : Type 1} → statement M
 same-runs-spec =

@@ -4,6 +4,7 @@ use lib.ListN.{length}
 use borrow.Author.Needs.{needs}
 use borrow.Author.Tests.{le-ltb, lt-ltb}
 use Rattle.terms.proofs.Laws.Tests.{by-test, known}
+use Rattle.schedule.specs.Reader.{refusalOf}
 use Rattle.schedule.specs.Run.{traceAfter}
 use Rattle.exports.specs.Types.{Running}
 use Rattle.exports.specs.Answer.{refusalAnswer, runInto, runningAnswer, totalsAfter, traceInto}
@@ -12,9 +13,9 @@ use Rattle.exports.proofs.interface.rehearsal_run.Tie as tie
 
 returns : tie.Need-returns
 returns c =
-    let a = c .before .before .before .before .before .before .args in
-    let few = lt-ltb (length (a .totals .now)) 12 (c .before .before .if1 .taken) in (
-      c .answer-of .ensures ∙ ap refusalAnswer (c .before .refusal-or-room .ensures) ∙ sym (ap runningAnswer (by-test _ _ few)),
+    let a = c .before .before .before .before .before .before .before .args in
+    let few = lt-ltb (length (a .totals .now)) 12 (c .before .before .before .if1 .taken) in (
+      c .answer-of .ensures ∙ ap refusalAnswer (c .before .refusal-of .ensures ∙ ap refusalOf (c .before .before .read .ensures .0)) ∙ sym (ap runningAnswer (by-test _ _ few)),
       (sym (by-test _ _ few), sym (ap (λ one. totalsAfter one (a .totals .now)) (by-test _ _ few))),
     )
 
@@ -48,6 +49,7 @@ pub rehearsal-run-spec : {M : Type 1} → statement M
 rehearsal-run-spec =
     tie.close
     (tie.spec
+    (λ c κs. search needs)
     (λ c κs. search needs)
     (λ c κs. search needs)
     returns

@@ -1,6 +1,6 @@
 -- `lines_of` meets its contract: the lines stand at the front of zeros, and a call leaves the bytes that it is lent as many as they were.
 use mathlib.Core.Path.{_∙_}
-use Prim.Native.Nat.{ℕ, _≤_}
+use Prim.Native.Nat.{ℕ}
 use native.Mathlib.Omega.{arith}
 use borrow.Author.Needs.{needs}
 use lib.ListN.{length-replicate}

@@ -1,16 +1,18 @@
 -- `put_lines` meets its contract: what the reading is decides which lines are put.
-use mathlib.Core.Path.{_≡_, ap, subst, sym, _∙_}
+use mathlib.Core.Path.{ap, subst, sym, _∙_}
 use Prim.Native.Nat.{_<_}
-use native.Mathlib.Nat.{zero-add}
 use native.Mathlib.Omega.{arith}
 use borrow.Author.Needs.{needs}
 use lib.ListN.{length}
 use Rattle.terms.specs.Refusal.{placeOf}
 use Rattle.terms.proofs.Laws.Tests.{known}
 use Rattle.number.specs.Number.{overwritten}
+use Rattle.schedule.specs.Format.{wordsIn}
 use Rattle.schedule.specs.Reader.{refusalOf}
+use Rattle.schedule.specs.Run.{outcomesFrom}
 use Rattle.schedule.proofs.Laws.Bytes.{each-below}
-use Rattle.lines.specs.Lines.{linesFor, refusalLine}
+use Rattle.schedule.proofs.Laws.Run.{parts-obeyed}
+use Rattle.lines.specs.Lines.{linesFor, refusalLine, runLines}
 use Rattle.lines.proofs.Laws.Lines.{place-fits}
 use Rattle.lines.proofs.lines.put_lines.Statement.{statement}
 use Rattle.lines.proofs.lines.put_lines.Tie as tie
@@ -36,8 +38,28 @@ returns c =
 
 put-run-requires : tie.Need-put-run-requires
 put-run-requires c κs =
-    let opened = c .before .before in
-    (omega arith, known (opened .before .before .read .ensures .0) (opened .reading .given .1))
+    let cut = c .before .before in
+    let opened = cut .before .before in
+    let asked = opened .before .before in
+    let start = asked .before .before .before in
+    let parts = parts-obeyed (start .args .file .now) _ _ (known (asked .read .ensures .0) (opened .reading .given .1)) in
+    (omega (arith, start .pre), omega (arith, ap length (cut .kind-part .ensures .0), parts .many, parts .few))
+
+returns-2 : tie.Need-returns-2
+returns-2 c =
+    let put = c .before .before in
+    let cut = put .before .before in
+    let opened = cut .before .before .before in
+    let asked = opened .before .before in
+    let a = asked .before .before .before .args in
+    let file = a .file .now in
+    let s = opened .reading .given .0 .0 in
+    let told = known (asked .read .ensures .0) (opened .reading .given .1) in
+    let lines =
+    (λ i. runLines s (outcomesFrom s (cut .before .kind-part .ensures .0 i) (wordsIn (cut .operand-part .ensures .0 i))))
+    ∙ ap (runLines s) (parts-obeyed file s (opened .reading .given .0 .1 .0) told .outcomes)
+    ∙ sym (ap (linesFor file) told) in
+    ((put .put-run .ensures .0 .0 ∙ ap length lines, omega (arith, put .put-run .ensures .0 .1)), put .put-run .ensures .1 ∙ ap (λ l. overwritten 0 l (a .text .now)) lines)
 
 pub put-lines-spec : {M : Type 1} → statement M
 put-lines-spec =
@@ -50,6 +72,8 @@ put-lines-spec =
     put-refusal-requires
     (λ c. search needs)
     returns
+    (λ c κs. search needs)
+    (λ c κs. search needs)
     put-run-requires
     (λ c. search needs)
-    (λ c. search needs))
+    returns-2)

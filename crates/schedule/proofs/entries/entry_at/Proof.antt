@@ -1,39 +1,20 @@
--- `entry_at` meets its contract: the two tests say whether the entry is there, and the four bytes of its operand are that number of the operand array.
-use mathlib.Core.Path.{_∙_, ap, sym}
+-- `entry_at` meets its contract: what stands at the place decides.
+use mathlib.Core.Path.{ap, sym}
 use borrow.Author.Needs.{needs}
-use lib.ListN.{getD}
-use Rattle.terms.specs.Kinds.{entryOf}
-use Rattle.schedule.specs.Format.{wordsIn}
-use Rattle.schedule.proofs.Laws.Entries.{entryAt-bytes, entryAt-no-kind, entryAt-no-operand}
-use Rattle.schedule.proofs.Laws.Format.{length-wordsIn}
+use Rattle.terms.proofs.Laws.Tests.{known}
+use Rattle.schedule.specs.Entries.{entryToObey}
 use Rattle.schedule.proofs.entries.entry_at.Statement.{statement}
 use Rattle.schedule.proofs.entries.entry_at.Tie as tie
 
 returns : tie.Need-returns
 returns c =
-    let a = c .before .before .before .before .before .before .before .args in
-    c .entry-of .ensures
-    ∙ ap (entryOf (a .thieves) (a .at) (getD (a .kinds .now) (a .at) 0)) (c .before .word-at .ensures)
-    ∙ sym (entryAt-bytes (a .thieves) (a .kinds .now) (a .operands .now) (a .at) (c .before .before .before .before .if1 .taken) (c .before .before .before .if2 .taken))
+    let asked = c .before .before .before in
+    sym (ap (entryToObey) (known (asked .meaning-at .ensures) (c .before .found .given .1)))
 
 returns-2 : tie.Need-returns-2
 returns-2 c =
-    let a = c .before .before .before .before .args in
-    sym (entryAt-no-operand (a .thieves) (a .kinds .now) (wordsIn (a .operands .now)) (a .at) (c .before .if1 .taken) (rw length-wordsIn (c .if2 .left)))
-
-returns-3 : tie.Need-returns-3
-returns-3 c =
-    let a = c .before .before .before .args in
-    sym (entryAt-no-kind (a .thieves) (a .kinds .now) (wordsIn (a .operands .now)) (a .at) (c .if1 .left))
+    let asked = c .before .before in
+    sym (ap (entryToObey) (known (asked .meaning-at .ensures) (c .enum-told .given .1)))
 
 pub entry-at-spec : {M : Type 1} → statement M
-entry-at-spec =
-    tie.close
-    (tie.spec
-    (λ c. search needs)
-    (λ c. search needs)
-    (λ c κs. search needs)
-    (λ c κs. search needs)
-    returns
-    returns-2
-    returns-3)
+entry-at-spec = tie.close (tie.spec (λ c κs. search needs) (λ c. search needs) (λ c. search needs) returns returns-2)

@@ -1,46 +1,57 @@
--- `operand_part` meets its contract: the file's length says that its operands reach to the end.
+-- `operand_part` meets its contract: what the reading is decides, then the file's length.
 use mathlib.Core.Path.{_∙_, ap, sym}
 use Prim.Native.Nat.{_+_, _≤_}
 use native.Mathlib.Omega.{arith}
 use borrow.Author.Needs.{needs}
-use lib.ListN.{drop, length}
-use Rattle.terms.proofs.Laws.Tests.{known}
-use Rattle.schedule.specs.Reader.{behind, partOf, startOf}
-use Rattle.schedule.proofs.Laws.Reader.{accepted-holds, behind-none, part-to-end}
+use borrow.Author.Tests.{leb-true}
+use lib.ListN.{length}
+use Rattle.terms.proofs.Laws.Tests.{by-test, denied, granted}
+use Rattle.schedule.specs.Reader.{behind, operandPart, operandStart}
+use Rattle.schedule.proofs.Laws.Reader.{behind-none, part-to-end}
 use Rattle.schedule.proofs.reader.operand_part.Statement.{statement}
 use Rattle.schedule.proofs.reader.operand_part.Tie as tie
 
--- the kinds of an accepted file lie within it
-within : (c : tie.After-known-told) → 28 + c .before .reading .given .0 .1 .0 ≤ length (c .before .before .before .before .before .args .file .now)
-within c =
-    accepted-holds (c .before .before .before .before .before .args .file .now) _ _ (known (c .before .before .before .read .ensures .0) (c .before .reading .given .1))
-
 returns : tie.Need-returns
 returns c =
-    let asked = c .before .before .before in
-    let file = asked .before .before .args .file in
-    let told = known (asked .read .ensures .0) (c .before .enum-told .given .1) in
-    (sym (ap (λ r. partOf r (λ entries. drop (28 + entries) (file .now))) told), sym (ap (λ r. behind (startOf r (λ entries. 28 + entries)) (file .ptr)) told ∙ behind-none (file .ptr)))
+    let file = c .before .before .before .before .args .file in
+    let told = c .before .enum-told .given .1 in
+    (sym (ap (operandPart (file .now)) told), sym (ap (λ r. behind (operandStart (file .now) r) (file .ptr)) told ∙ behind-none (file .ptr)))
 
 returns-2 : tie.Need-returns-2
 returns-2 c =
-    let asked = c .before .before .before .before in
-    let file = asked .before .before .args .file in
-    let entries = c .before .before .reading .given .0 .1 .0 in
-    let told = known (asked .read .ensures .0) (c .before .before .reading .given .1) in
-    (part-to-end (28 + entries) (file .now) ∙ sym (ap (λ r. partOf r (λ entries. drop (28 + entries) (file .now))) told), sym (ap (λ r. behind (startOf r (λ entries. 28 + entries)) (file .ptr)) told))
+    let tested = c .before .before in
+    let opened = tested .before .before in
+    let file = opened .before .before .before .args .file in
+    let told = opened .reading .given .1 in
+    let none = denied (tested .holds-kinds .ensures) (c .before .if1 .taken) in
+    (sym (ap (operandPart (file .now)) told ∙ by-test _ _ none), sym (ap (λ r. behind (operandStart (file .now) r) (file .ptr)) told ∙ ap (λ n. behind n (file .ptr)) (by-test _ _ none) ∙ behind-none (file .ptr)))
+
+-- the kinds lie in the file
+within : (c : tie.Else1) → 28 + c .before .before .before .reading .given .0 .1 .0 ≤ length (c .before .before .before .before .before .before .args .file .now)
+within c = leb-true _ _ (granted (c .before .holds-kinds .ensures) (c .if1 .left))
+
+returns-3 : tie.Need-returns-3
+returns-3 c =
+    let tested = c .before .before in
+    let opened = tested .before .before in
+    let file = opened .before .before .before .args .file in
+    let told = opened .reading .given .1 in
+    let held = granted (tested .holds-kinds .ensures) (c .before .if1 .left) in
+    (part-to-end (28 + opened .reading .given .0 .1 .0) (file .now) ∙ sym (ap (operandPart (file .now)) told ∙ by-test _ _ held), sym (ap (λ r. behind (operandStart (file .now) r) (file .ptr)) told ∙ ap (λ n. behind n (file .ptr)) (by-test _ _ held)))
 
 pub operand-part-spec : {M : Type 1} → statement M
 operand-part-spec =
     tie.close
     (tie.spec
-    (λ c κs. search needs)
     (λ c. search needs)
     (λ c. search needs)
     (λ c. search needs)
     returns
+    (λ c κs. search needs)
+    (λ c. search needs)
+    returns-2
     (λ c. omega (arith, within c))
     (λ c. omega (arith, within c))
     (λ c. omega (arith, within c))
     (λ c. omega (arith, within c))
-    returns-2)
+    returns-3)

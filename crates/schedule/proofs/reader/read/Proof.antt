@@ -1,107 +1,80 @@
--- `read` meets its contract: what it decodes is what stands in the file, and its tests are the reader's checks in their order.
+-- `read` meets its contract: the sizes decide, and behind them the check of the two parts, which are the file's arrays.
 use mathlib.Core.Path.{_≡_, _∙_, ap, sym}
 use Prim.Native.Nat.{_+_, _*_}
 use borrow.Author.Needs.{needs}
-use lib.Dec.{lit<}
 use Rattle.terms.proofs.Laws.Tests.{known}
 use Rattle.schedule.specs.Types.{Accepted}
-use Rattle.schedule.specs.Check.{checkRanges}
-use Rattle.schedule.specs.Entries.{checkEntries}
-use Rattle.schedule.specs.Format.{entriesIn, kindsIn, operandsIn, sizesIn}
+use Rattle.schedule.specs.Entries.{checkEntries, checkParts}
+use Rattle.schedule.specs.Format.{kindsIn, operandsIn}
+use Rattle.schedule.specs.Reader.{readFile, readingOf}
 use Rattle.schedule.proofs.Faults.{read-promises}
-use Rattle.schedule.proofs.Laws.Reader.{parts-checked, read-faulty, read-out-of-range, read-short, read-under-28, readable-accepted, sizeIn-at}
+use Rattle.schedule.proofs.Laws.Reader.{entriesChecked, parts-checked, sizes-decide, sizes-refused}
 use Rattle.schedule.proofs.reader.read.Statement.{statement}
 use Rattle.schedule.proofs.reader.read.Tie as tie
 
 returns : tie.Need-returns
-returns c = read-promises (c .before .before .args .file .now) _ (sym (read-under-28 (c .before .before .args .file .now) (c .if1 .taken)))
+returns c =
+    let asked = c .before .before in
+    let file = asked .before .before .args .file .now in
+    let told = c .enum-told .given .1 in
+    read-promises file _ (told ∙ sym (sizes-refused file _ (known (asked .read-sizes .ensures) told)))
 
--- the number of entries that was decoded is that of the file
-entries-read : (c : tie.After-check-ranges) → c .before .word-at .result ≡ entriesIn (c .before .before .before .before .before .args .file .now)
-entries-read c =
-    let tested = c .before .before .before in
-    c .before .word-at .ensures ∙ sym (sizeIn-at (tested .before .before .args .file .now) (tested .if1 .left) 6 (lit< tt))
+-- the check of the two parts is that of the entries that stand in the file
+checked : (c : tie.After-check-entries)
+    → let file = c .before .before .before .before .before .before .before .before .args .file .now in
+    c .check-entries .result ≡ entriesChecked file
+checked c =
+    let opened = c .before .before .before .before in
+    let asked = opened .before .before in
+    let file = asked .before .before .args .file .now in
+    let told = opened .reading .given .1 in
+    let s = opened .reading .given .0 .0 in
+    let n = opened .reading .given .0 .1 .0 in
+    let sized = sizes-decide file s n (known (asked .read-sizes .ensures) told) in
+    let long = sized .1 .1 .0 .long ∙ ap (λ k. 28 + 5 * k) (sym (sized .1 .0)) in
+    c .check-entries .ensures .0
+    ∙ (λ i. checkParts s (c .before .before .kind-part .ensures .0 i) (c .before .operand-part .ensures .0 i))
+    ∙ parts-checked file s n long
+    ∙ (λ i. checkEntries (sized .0 i) (kindsIn (sized .1 .0 i) file) (operandsIn (sized .1 .0 i) file))
 
--- and the check of the sizes is that of the file's
-ranges-checked : (c : tie.After-check-ranges)
-    → let file = c .before .before .before .before .before .args .file .now in
-    c .check-ranges .result ≡ checkRanges (sizesIn file) (entriesIn file)
-ranges-checked c = c .check-ranges .ensures ∙ (λ i. checkRanges (c .before .before .sizes-in .ensures i) (entries-read c i))
+-- where the sizes are right, the check of the entries decides
+decided : (c : tie.After-check-entries)
+    → let file = c .before .before .before .before .before .before .before .before .args .file .now in
+    readFile file ≡ readingOf file (c .check-entries .result)
+decided c =
+    let opened = c .before .before .before .before in
+    let asked = opened .before .before in
+    let file = asked .before .before .args .file .now in
+    sizes-decide file _ _ (known (asked .read-sizes .ensures) (opened .reading .given .1)) .1 .1 .1 ∙ ap (readingOf file) (sym (checked c))
 
 returns-2 : tie.Need-returns-2
 returns-2 c =
-    let checked = c .before .before .before in
-    let start = checked .before .before .before .before .before in
-    read-promises (start .args .file .now) _ (sym (read-out-of-range (start .args .file .now) (checked .before .before .before .if1 .left) _ (known (ranges-checked checked) (c .before .ranges .given .1))))
+    let answered = c .before .before in
+    let opened = answered .before .before .before .before in
+    let asked = opened .before .before in
+    let file = asked .before .before .args .file .now in
+    let told = opened .reading .given .1 in
+    let sized = sizes-decide file _ _ (known (asked .read-sizes .ensures) told) in
+    read-promises file _ ((λ i. Accepted (sized .0 i) (sized .1 .0 i)) ∙ sym (decided answered ∙ ap (readingOf file) (c .enum-told2 .given .1)))
 
 returns-3 : tie.Need-returns-3
 returns-3 c =
-    let checked = c .before .before .before in
-    let start = checked .before .before .before .before .before in
-    read-promises (start .args .file .now) _
-    (sym (read-short (start .args .file .now) (checked .before .before .before .if1 .left) (known (ranges-checked checked) (c .before .enum-told .given .1))
-    (λ same. c .if2 .taken (same ∙ ap (λ n. 28 + 5 * n) (sym (entries-read checked))))))
-
--- the check of the entries is that of the two arrays of the file
-steps-checked : (c : tie.After-check-part)
-    → let file = c .before .before .before .before .before .before .before .before .before .before .before .args .file .now in
-    c .check-part .result ≡ checkEntries (sizesIn file .thieves) (kindsIn (entriesIn file) file) (operandsIn (entriesIn file) file)
-steps-checked c =
-    let tested = c .before .before .before in
-    let checked = tested .before .before .before in
-    let start = checked .before .before .before .before .before in
-    c .check-part .ensures
-    ∙ parts-checked (start .args .file .now) _ _ (checked .before .before .sizes-in .ensures) (entries-read checked) (tested .if2 .left)
-
-returns-4 : tie.Need-returns-4
-returns-4 c =
-    let entries-checked = c .before .before in
-    let tested = entries-checked .before .before .before in
-    let checked = tested .before .before .before in
-    let file = checked .before .before .before .before .before .args .file .now in
-    read-promises file _
-    ((λ i. Accepted (checked .before .before .sizes-in .ensures i) (entries-read checked i))
-    ∙ sym (readable-accepted file (record {
-      ranges = known (ranges-checked checked) (tested .before .enum-told .given .1);
-      long = tested .if2 .left ∙ ap (λ n. 28 + 5 * n) (entries-read checked);
-      each = known (steps-checked entries-checked) (c .enum-told2 .given .1);
-    })))
-
-returns-5 : tie.Need-returns-5
-returns-5 c =
-    let entries-checked = c .before .before .before in
-    let tested = entries-checked .before .before .before in
-    let checked = tested .before .before .before in
-    let sizes-there = checked .before .before .before .if1 .left in
-    let file = checked .before .before .before .before .before .args .file .now in
-    read-promises file _
-    (sym (read-faulty file sizes-there (known (ranges-checked checked) (tested .before .enum-told .given .1)) (tested .if2 .left ∙ ap (λ n. 28 + 5 * n) (entries-read checked)) _
-    (known (steps-checked entries-checked) (c .before .steps .given .1))))
+    let answered = c .before .before .before in
+    let file = answered .before .before .before .before .before .before .before .before .args .file .now in
+    read-promises file _ (sym (decided answered ∙ ap (readingOf file) (c .before .checked .given .1)))
 
 pub read-spec : {M : Type 1} → statement M
 read-spec =
     tie.close
     (tie.spec
+    (λ c κs. search needs)
+    (λ c. search needs)
+    (λ c. search needs)
     returns
     (λ c κs. search needs)
     (λ c κs. search needs)
-    (λ c. search needs)
     (λ c κs. search needs)
+    (λ c. search needs)
     (λ c. search needs)
     returns-2
-    (λ c. search needs)
-    (λ c. search needs)
-    (λ c. search needs)
-    returns-3
-    (λ c. search needs)
-    (λ c. search needs)
-    (λ c. search needs)
-    (λ c. search needs)
-    (λ c. search needs)
-    (λ c. search needs)
-    (λ c. search needs)
-    (λ c κs. search needs)
-    (λ c. search needs)
-    (λ c. search needs)
-    returns-4
-    returns-5)
+    returns-3)

@@ -9,25 +9,25 @@ use Rattle.writer.proofs.entries.check_arrays.Statement.{statement}
 use Rattle.writer.proofs.entries.check_arrays.Tie as tie
 
 abbrev Inv-loop : tie.InvT-loop
-Inv-loop thieves kinds operands at₀ at = NoneBefore thieves kinds operands at
+Inv-loop sizes kinds operands at₀ at = NoneBefore sizes kinds operands at
 
 abbrev μ-loop : tie.MeasureT-loop
-μ-loop thieves kinds operands at₀ at = length kinds - at
+μ-loop sizes kinds operands at₀ at = length kinds - at
 
 loop-holds : tie.Need-loop-holds Inv-loop μ-loop
-loop-holds c = let a = c .before .before .args in none-before-first (a .thieves) (a .kinds .now) (a .operands .now)
+loop-holds c = let a = c .before .before .args in none-before-first (a .sizes) (a .kinds .now) (a .operands .now)
 
 -- what `entry_of` answers in a turn is the entry of the two arrays
 meant : (c : tie.After-entry-of Inv-loop μ-loop)
     → let turn = c .before .before .before in
     let a = turn .before .before .before .before .args in
-    entryAt (a .thieves) (a .kinds .now) (a .operands .now) (turn .before .loop .at) ≡ c .entry-of .result
+    entryAt (a .sizes) (a .kinds .now) (a .operands .now) (turn .before .loop .at) ≡ c .entry-of .result
 meant c =
     let turn = c .before .before .before in
     let start = turn .before .before .before .before in
     let a = start .args in
     let at = turn .before .loop .at in
-    entryAt-both (a .thieves) (a .kinds .now) (a .operands .now) at (turn .loop-test .taken) (subst (λ n. at < n) (sym (start .pre)) (turn .loop-test .taken))
+    entryAt-both (a .sizes) (a .kinds .now) (a .operands .now) at (turn .loop-test .taken) (subst (λ n. at < n) (sym (start .pre)) (turn .loop-test .taken))
     ∙ sym (c .entry-of .ensures)
 
 returns : tie.Need-returns Inv-loop μ-loop
@@ -35,7 +35,7 @@ returns c =
     let answered = c .before .before .before in
     let turn = answered .before .before .before in
     let a = turn .before .before .before .before .args in
-    first-faulty (a .thieves) (a .kinds .now) (a .operands .now) (turn .before .loop .at) _ (turn .before .loop .inv) (turn .loop-test .taken)
+    first-faulty (a .sizes) (a .kinds .now) (a .operands .now) (turn .before .loop .at) _ (turn .before .loop .inv) (turn .loop-test .taken)
     (meant answered ∙ c .before .meaning .given .1)
 
 loop-again : tie.Need-loop-again Inv-loop μ-loop
@@ -43,13 +43,13 @@ loop-again c =
     let answered = c .before .before in
     let turn = answered .before .before .before in
     let a = turn .before .before .before .before .args in
-    none-before-next (a .thieves) (a .kinds .now) (a .operands .now) (turn .before .loop .at) _ (turn .before .loop .inv) (turn .loop-test .taken)
+    none-before-next (a .sizes) (a .kinds .now) (a .operands .now) (turn .before .loop .at) _ (turn .before .loop .inv) (turn .loop-test .taken)
     (meant answered ∙ c .enum-told .given .1)
 
 returns-2 : tie.Need-returns-2 Inv-loop μ-loop
 returns-2 c =
     let a = c .before .before .before .before .args in
-    none-at-all (a .thieves) (a .kinds .now) (a .operands .now) (c .before .loop .at) (c .before .loop .inv) (c .loop-test .left)
+    none-at-all (a .sizes) (a .kinds .now) (a .operands .now) (c .before .loop .at) (c .before .loop .inv) (c .loop-test .left)
 
 pub check-arrays-spec : {M : Type 1} → statement M
 check-arrays-spec =

@@ -34,7 +34,7 @@ returns c =
     let sizes-put = kinds-put .before .before .before .before in
     let start = sizes-put .before .before .before .before .before in
     let a = start .args in
-    let bytes = entries-bytes (a .sizes .thieves) (a .kinds .now) (a .operands .now) (right start .each) in
+    let bytes = entries-bytes (a .sizes) (a .kinds .now) (a .operands .now) (right start .each) in
     file-written (a .sizes) (a .kinds .now) (a .operands .now) bytes (right start .parallel) (a .buffer .now) _ _ _
     (sizes-put .put-sizes .ensures) (kinds-put .put-kinds .ensures) (operands-put .put-operands .ensures)
 

@@ -33,6 +33,8 @@ const ANY: u64 = 4000;
 const BASES: u64 = 4;
 /// Arrays with an entry, a multiple of the number of kind bytes.
 const ARRAYS: u64 = 40 * 256;
+/// Arrays that are checked.
+const CHECKS: u64 = 4000;
 /// Random files for single functions, half of them damaged.
 const SINGLE_FILES: u64 = 3000;
 
@@ -152,10 +154,18 @@ fn single_functions(single: &Single, seed: u64) -> Result<Vec<Part>, Found> {
         let random = &mut Random::of_case(seed, case);
         single.hold_entry(&Arrays::of_case(case, random))
     };
+    let check = |case, _: &mut Tally| {
+        let random = &mut Random::of_case(seed, case);
+        match case % 4 {
+            0 => single.hold_check(&Arrays::of_case(case, random)),
+            _ => single.hold_check(&Arrays::nearly_allowed(random)),
+        }
+    };
     let cut = |case, _: &mut Tally| single.hold_parts(&file(case));
     let told = |case, _: &mut Tally| single.hold_lines(&file(case));
     let rows = [
         part("operations: entries of two arrays", ARRAYS, entry)?,
+        part("operations: checks of two arrays", CHECKS, check)?,
         part("operations: parts of files", files, cut)?,
         part("operations: lines of files", files, told)?,
     ];
