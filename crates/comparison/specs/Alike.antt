@@ -68,7 +68,7 @@ likenessOf first second (Accepted s n) (Accepted t m) = cond (sameSizes s t && s
 abbrev pub likeness : List ℕ → List ℕ → Likeness
 likeness first second = likenessOf first second (readFile first) (readFile second)
 
--- Which faults two compared files have, by the refusal in the answer: number and place are those of a fault of the first file; or it has none, and they are those of a fault of the second.
+-- Which faults two compared files have, by the refusal in the answer: number and place are those of a fault of the first file; or it has none, and they are those of a fault of the second; or neither has one.
 abbrev pub LikenessRefuses : List ℕ → List ℕ → Likeness → Type 0
 LikenessRefuses first second Alike = Refuses (fileHas first) [] × Refuses (fileHas second) []
 LikenessRefuses first second NotAlike = Refuses (fileHas first) [] × Refuses (fileHas second) []

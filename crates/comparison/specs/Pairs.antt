@@ -84,6 +84,7 @@ pairs =
     -- another value, another answer, one answer more or less
     ∷ unlike (plain one) (plain (put 8 ++ drains ++ take))
     ∷ unlike (plain (put 7 ++ drains ++ put 7)) (plain one)
+    ∷ unlike (plain (put 0 ++ drains ++ take)) (plain (put 0 ++ drains ++ put 0))
     ∷ unlike (plain one) (plain (put 7))
     ∷ unlike (plain (put 7)) (plain one)
     ∷ unlike (plain (put 7)) (plain [])

@@ -68,7 +68,7 @@ fn party_of(entry: Entry) -> usize
     }
 }
 
-// The first entry, from a place on, that gets an answer for the party; behind the last entry, if there is none.
+// The place of the first entry, from a given one on, that gets an answer for the party; the number of entries, if there is none.
 fn next_answer(
     party: usize,
     sizes: Sizes,
@@ -119,27 +119,41 @@ fn same_for(
     kinds: &[u8],
     operands: &[u8],
     trace: &[u8],
-    others: &[u8],
+    other_kinds: &[u8],
     other_operands: &[u8],
     other_trace: &[u8],
 ) -> bool
     requires { ⌜ (4 + 5 * length (now kinds) ≤ length (now trace)) × (length (now kinds) ≤ 4096) ⌝ }
-    requires { ⌜ (4 + 5 * length (now others) ≤ length (now «other_trace»)) × (length (now others) ≤ 4096) ⌝ }
-    ensures { λ r. ⌜ r ≡ sameFor sizes (now (kinds .entry)) (wordsIn (now (operands .entry))) (now (trace .entry)) (now (others .entry)) (wordsIn (now («other_operands» .entry))) (now («other_trace» .entry)) party ⌝ }
+    requires { ⌜ (4 + 5 * length (now «other_kinds») ≤ length (now «other_trace»)) × (length (now «other_kinds») ≤ 4096) ⌝ }
+    ensures { λ r. ⌜ r ≡ sameFor sizes (now (kinds .entry)) (wordsIn (now (operands .entry))) (now (trace .entry)) (now («other_kinds» .entry)) (wordsIn (now («other_operands» .entry))) (now («other_trace» .entry)) party ⌝ }
 {
     let mut at = next_answer(party, sizes, kinds, operands, trace, 0);
-    let mut there = next_answer(party, sizes, others, other_operands, other_trace, 0);
+    let mut there = next_answer(party, sizes, other_kinds, other_operands, other_trace, 0);
     while at < kinds.len() {
-        if there == others.len() {
+        if there == other_kinds.len() {
             return false;
         }
-        if !same_line(kinds.len(), trace, at, others.len(), other_trace, there) {
+        if !same_line(
+            kinds.len(),
+            trace,
+            at,
+            other_kinds.len(),
+            other_trace,
+            there,
+        ) {
             return false;
         }
         at = next_answer(party, sizes, kinds, operands, trace, at + 1);
-        there = next_answer(party, sizes, others, other_operands, other_trace, there + 1);
+        there = next_answer(
+            party,
+            sizes,
+            other_kinds,
+            other_operands,
+            other_trace,
+            there + 1,
+        );
     }
-    there == others.len()
+    there == other_kinds.len()
 }
 
 // Whether no party's answers differ between two runs, the worker's and every thief's.
@@ -148,13 +162,13 @@ fn same_for_all(
     kinds: &[u8],
     operands: &[u8],
     trace: &[u8],
-    others: &[u8],
+    other_kinds: &[u8],
     other_operands: &[u8],
     other_trace: &[u8],
 ) -> bool
     requires { ⌜ (4 + 5 * length (now kinds) ≤ length (now trace)) × (length (now kinds) ≤ 4096) ⌝ }
-    requires { ⌜ (4 + 5 * length (now others) ≤ length (now «other_trace»)) × (length (now others) ≤ 4096) ⌝ }
-    ensures { λ r. ⌜ r ≡ sameForAll sizes (now (kinds .entry)) (wordsIn (now (operands .entry))) (now (trace .entry)) (now (others .entry)) (wordsIn (now («other_operands» .entry))) (now («other_trace» .entry)) ⌝ }
+    requires { ⌜ (4 + 5 * length (now «other_kinds») ≤ length (now «other_trace»)) × (length (now «other_kinds») ≤ 4096) ⌝ }
+    ensures { λ r. ⌜ r ≡ sameForAll sizes (now (kinds .entry)) (wordsIn (now (operands .entry))) (now (trace .entry)) (now («other_kinds» .entry)) (wordsIn (now («other_operands» .entry))) (now («other_trace» .entry)) ⌝ }
 {
     let mut party = 0;
     while party <= sizes.thieves as usize {
@@ -164,7 +178,7 @@ fn same_for_all(
             kinds,
             operands,
             trace,
-            others,
+            other_kinds,
             other_operands,
             other_trace,
         ) {
@@ -175,27 +189,27 @@ fn same_for_all(
     true
 }
 
-// Whether no party's answers differ between two schedules with the same sizes, each given by the two parts of its file. The traces are its own.
+// Runs two schedules with the same sizes, each given by the two parts of its file, into traces of its own, and answers whether no party's answers differ.
 fn same_runs(
     sizes: Sizes,
     kinds: &[u8],
     operands: &[u8],
-    others: &[u8],
+    other_kinds: &[u8],
     other_operands: &[u8],
 ) -> bool
-    requires { ⌜ (length (now kinds) ≤ 4096) × (length (now others) ≤ 4096) ⌝ }
-    ensures { λ r. ⌜ r ≡ sameRuns sizes (now (kinds .entry)) (wordsIn (now (operands .entry))) (now (others .entry)) (wordsIn (now («other_operands» .entry))) ⌝ }
+    requires { ⌜ (length (now kinds) ≤ 4096) × (length (now «other_kinds») ≤ 4096) ⌝ }
+    ensures { λ r. ⌜ r ≡ sameRuns sizes (now (kinds .entry)) (wordsIn (now (operands .entry))) (now («other_kinds» .entry)) (wordsIn (now («other_operands» .entry))) ⌝ }
 {
     let mut trace = [0; LONGEST_TRACE];
     let mut other_trace = [0; LONGEST_TRACE];
     obey_entries(sizes, kinds, operands, &mut trace);
-    obey_entries(sizes, others, other_operands, &mut other_trace);
+    obey_entries(sizes, other_kinds, other_operands, &mut other_trace);
     same_for_all(
         sizes,
         kinds,
         operands,
         &trace,
-        others,
+        other_kinds,
         other_operands,
         &other_trace,
     )
@@ -217,9 +231,9 @@ pub fn alike(first: &[u8], second: &[u8]) -> Likeness
     if same_sizes(sizes, other_sizes) {
         let kinds = kind_part(first, reading);
         let operands = operand_part(first, reading);
-        let others = kind_part(second, other);
+        let other_kinds = kind_part(second, other);
         let other_operands = operand_part(second, other);
-        if same_runs(sizes, kinds, operands, others, other_operands) {
+        if same_runs(sizes, kinds, operands, other_kinds, other_operands) {
             return Likeness::Alike;
         }
     }

@@ -11,7 +11,7 @@ use Rattle.terms.specs.declared.refusal.Refusal.the-variants.{Size, Short, Kind
 use Rattle.schedule.specs.Edges.{different, differentFile, example, exampleFile, exampleOperands}
 use Rattle.schedule.specs.Format.{sizeBytes}
 use Rattle.schedule.specs.Reader.{readFile}
-use Rattle.schedule.specs.Runs.{before, file, twoTakesAndASteal}
+use Rattle.schedule.specs.Runs.{before, exampleTrace, file, twoTakesAndASteal}
 use Rattle.comparison.specs.Alike.{likeness}
 use Rattle.writer.specs.Writer.{writeFile}
 use Rattle.exports.specs.Types.{Refusal, Room, Sizes}
@@ -22,7 +22,7 @@ pub data Row : Type 0 where
   answers : Refusal → ℕ → Row
   -- a file, bytes lent for its sizes, what is answered, and what the bytes hold afterwards
   reads : (file bytes : List ℕ) (answer : ℕ) (after : List ℕ) → Row
-  -- a file, a trace buffer, bytes lent for the totals, what is answered, and what buffer and bytes hold afterwards; of the buffer the first four bytes
+  -- a file, a trace buffer, bytes lent for the totals, what is answered, and what buffer and bytes hold afterwards; of the buffer as many bytes as are given
   runs : (file trace totals : List ℕ) (answer : ℕ) (begins after : List ℕ) → Row
   -- two files, and what is answered
   compares : (first second : List ℕ) (answer : ℕ) → Row
@@ -34,7 +34,7 @@ holds (answers r answer) = eqb (refusalAnswer r) answer
 holds (reads file bytes answer after) = eqb (readingAnswer (readFile file) bytes) answer && equal (sizesAfter (readFile file) bytes) after
 holds (runs file trace totals answer begins after) =
     eqb (runningAnswer (runInto file (length trace) totals)) answer
-    && equal (take 4 (traceInto file trace totals)) begins
+    && equal (take (length begins) (traceInto file trace totals)) begins
     && equal (totalsAfter (runInto file (length trace) totals) totals) after
 holds (compares first second answer) = eqb (likenessAnswer (likeness first second)) answer
 holds (writes s kinds operands room answer) = eqb (writingAnswer (writeFile s kinds operands room)) answer
@@ -56,6 +56,7 @@ table =
     ∷ reads [] (before 23) 8589934592 (before 23)
     -- three totals in 12 bytes, and nothing in fewer; what is refused leaves trace and totals
     ∷ runs exampleFile (before 34) (before 13) 0 (6 ∷ 0 ∷ 0 ∷ 0 ∷ []) (0 ∷ 0 ∷ 0 ∷ 0 ∷ 0 ∷ 0 ∷ 0 ∷ 0 ∷ 1 ∷ 0 ∷ 0 ∷ 0 ∷ before 1)
+    ∷ runs exampleFile (before 36) (before 13) 0 (exampleTrace ++ before 2) (0 ∷ 0 ∷ 0 ∷ 0 ∷ 0 ∷ 0 ∷ 0 ∷ 0 ∷ 1 ∷ 0 ∷ 0 ∷ 0 ∷ before 1)
     ∷ runs (file (sized 4 2 0 2 1 0) twoTakesAndASteal) (before 139) (before 12) 0 (27 ∷ 0 ∷ 0 ∷ 0 ∷ []) (2 ∷ 0 ∷ 0 ∷ 0 ∷ 1 ∷ 0 ∷ 0 ∷ 0 ∷ 0 ∷ 0 ∷ 0 ∷ 0 ∷ [])
     ∷ runs exampleFile (before 34) (before 11) 34359738368 (before 4) (before 11)
     ∷ runs exampleFile (before 33) (before 12) 34359738368 (before 4) (before 12)

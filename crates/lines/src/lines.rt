@@ -123,7 +123,7 @@ fn put_refusal(text: &mut [u8], refusal: Refusal) -> usize
     put_number(text, end, place as u32, NEWLINE)
 }
 
-// Puts the lines of a file that was read, by its sizes and its two parts. Answers where they end.
+// Runs a file that was read, by its sizes and its two parts, and puts its lines. Answers where they end.
 fn put_run(text: &mut [u8], sizes: Sizes, kinds: &[u8], operands: &[u8]) -> usize
     requires { ⌜ (135293 ≤ length (now text)) × (length (now kinds) ≤ 4096) ⌝ }
     ensures { λ r. ⌜ (r ≡ length (runLines sizes (outcomesFrom sizes (now (kinds .entry)) (wordsIn (now (operands .entry)))))) × (r ≤ 135293) ⌝ }

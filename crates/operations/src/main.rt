@@ -69,8 +69,8 @@ fn write_pair(byte: u8, number: u32) {
     io::write_all(1, &response);
 }
 
-// The six sizes at the front of a request.
-fn sizes_in(request: &[u8]) -> Sizes {
+// The six sizes that a request lends, at its front.
+fn lent_sizes(request: &[u8]) -> Sizes {
     Sizes {
         slots: word_at(request, 0),
         buffer: word_at(request, 4),
@@ -90,7 +90,7 @@ fn answer_entry(request: &[u8]) {
         return write_length(0);
     }
     let entry = schedule::entry_at(
-        sizes_in(request),
+        lent_sizes(request),
         &request[32..operands],
         &request[operands..],
         at,
@@ -107,7 +107,7 @@ fn answer_check(request: &[u8]) {
         return write_length(0);
     }
     let checked = schedule::check_entries(
-        sizes_in(request),
+        lent_sizes(request),
         &request[28..operands],
         &request[operands..],
     );

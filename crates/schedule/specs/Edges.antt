@@ -11,7 +11,7 @@ use Rattle.terms.specs.Kinds.{entryOf, kindOf, operandOf}
 use Rattle.terms.specs.Lists.{equal, rangeFrom}
 use Rattle.terms.specs.Numbers.{isNoEntry}
 use Rattle.terms.specs.Sizes.{sized}
-use Rattle.schedule.specs.Types.{Accepted, Allowed, Check, Failed, Meaning, Passed, Reading, Refusal, Sizes}
+use Rattle.schedule.specs.Types.{Accepted, Allowed, Check, Failed, Meaning, Passed, Reading, Short, Sizes}
 use Rattle.schedule.specs.Types.{BeginPut, BeginSteal, BeginTake, ClientStore, Drain, Entry, ThiefStep, WorkerStep}
 use Rattle.schedule.specs.declared.reader.Reading.the-variants as reading
 use Rattle.number.specs.Number.{littleEndian}
@@ -42,6 +42,8 @@ pub data Row : Type 0 where
   fails : (thieves : ℕ) (kinds operands : List ℕ) (number place : ℕ) → Row
   -- the two parts of a file by a reading that says so many entries, whatever the file says, and where they lie
   cuts : (file : List ℕ) (entries : ℕ) (kinds operands : List ℕ) (kindsAt operandsAt : ℕ) → Row
+  -- a file that is cut by the answer that it is refused, whatever it is: no part of it is handed back
+  cutsNothing : (file : List ℕ) → Row
 
 abbrev pub isRead : Sizes → ℕ → Reading → Bool
 isRead s n (Accepted t entries) = equal (sizeNumbers s n) (sizeNumbers t entries)
@@ -87,6 +89,7 @@ holds (noEntry thieves kinds operands at number place) =
     isNoEntry number place found && isSame (ThiefStep 4294967295) (entryToObey found)
 holds (passes thieves kinds operands) = isPassed (checkParts (withThieves thieves) kinds operands)
 holds (fails thieves kinds operands number place) = isFailed number place (checkParts (withThieves thieves) kinds operands)
+holds (cutsNothing file) = areParts file (reading.Refused Short) [] [] 0 0
 holds (cuts file entries kinds operands kindsAt operandsAt) = areParts file (Accepted example entries) kinds operands kindsAt operandsAt
 
 -- ── Files ───────────────────────────────────────────────────────────────────────────────────────────────────────────────────
@@ -249,6 +252,7 @@ parts =
     ∷ cuts exampleFile 18446744073709551615 [] [] 0 0
     ∷ cuts (differentFile ++ (0 ∷ [])) 1 (0 ∷ []) [] 28 29
     ∷ cuts (take 27 exampleFile) 0 [] [] 0 0
+    ∷ cutsNothing exampleFile
     ∷ []
 
 abbrev pub edges : List Row

@@ -26,7 +26,7 @@ abbrev pub checkEntries : Sizes → List ℕ → List ℕ → Check
 checkEntries s kinds operands = first (map (λ at. checkOf (entryAt s kinds operands at)) (range (length kinds)))
 
 -- All entries of two parts, kinds and operands, the operands still in bytes. Where there are not four bytes of operand for each kind, it is SHORT before any entry is looked
--- at, as a file of another length is. The two parts of one file always belong together (`Parts`); 02 does not speak of others.
+-- at, as a file of another length is. The two parts of an accepted file, by its own reading, belong together (`PartsOfAccepted`); 02 does not speak of others.
 abbrev pub checkParts : Sizes → List ℕ → List ℕ → Check
 checkParts s kinds bytes = first (failIf (not (eqb (length bytes) (4 * length kinds))) Short ∷ checkEntries s kinds (wordsIn bytes) ∷ [])
 

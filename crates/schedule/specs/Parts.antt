@@ -1,7 +1,7 @@
--- The parts and the entries of a file, and that its check and its run go by decoded sizes and the two parts alone, as request 3 of 02 has it. But for the operand part, the rest is no sentence of 01: it follows from "The schedule file". Proved in `proofs/Parts.antt`.
+-- The parts and the entries of a file, and that its check and its run go by decoded sizes and the two parts alone, as request 3 of 02 has it. But for that and the operand part, nothing here is a sentence of the papers: it follows from "The schedule file". Proved in `proofs/Parts.antt`.
 use mathlib.Core.Path.{_≡_}
 use mathlib.Core.List.{List, _++_}
-use Prim.Native.Nat.{ℕ, _+_, _*_, _<_}
+use Prim.Native.Nat.{ℕ, _+_, _*_, _≤_, _<_}
 use lib.ListN.{getD, length, take}
 use Rattle.terms.specs.Kinds.{entryOf, kindOf, operandOf}
 use Rattle.schedule.specs.Types.{Accepted, Allowed, Entry, Passed, Sizes}
@@ -9,7 +9,8 @@ use Rattle.schedule.specs.Check.{first}
 use Rattle.schedule.specs.Entries.{checkParts, entryAt}
 use Rattle.schedule.specs.Format.{entriesIn, kindsIn, operandsIn, sizesIn, wordsIn}
 use Rattle.schedule.specs.Reader.{kindPart, kindStart, operandPart, operandStart, readFile, readingOf, sizeChecks}
-use Rattle.schedule.specs.Run.{outcomesFrom, outcomesIn}
+use Rattle.schedule.specs.Run.{outcomesFrom, outcomesIn, traceAfter, tracePut}
+use Rattle.schedule.specs.Trace.{traceLength}
 
 -- an allowed entry has the kind and the operand that it was read from
 abbrev pub EntriesAsRead : Type 0
@@ -44,8 +45,9 @@ ReadByParts =
     → let right = Accepted (sizesIn file) (entriesIn file) in
     readFile file ≡ readingOf file (checkParts (sizesIn file) (kindPart file right) (operandPart file right))
 
--- and a file that is read is run by its decoded sizes and its two parts
+-- and the outcomes of a file that is read, and the trace that is put where there is room for it, are those of its decoded sizes and its two parts
 abbrev pub RunByParts : Type 0
 RunByParts =
     (file : List ℕ) (s : Sizes) (n : ℕ) → readFile file ≡ Accepted s n
-    → outcomesIn file ≡ outcomesFrom s (kindPart file (readFile file)) (wordsIn (operandPart file (readFile file)))
+    → let os = outcomesFrom s (kindPart file (readFile file)) (wordsIn (operandPart file (readFile file))) in
+    (outcomesIn file ≡ os) × ((trace : List ℕ) → traceLength n ≤ length trace → traceAfter file trace ≡ tracePut os trace)

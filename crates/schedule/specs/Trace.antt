@@ -17,7 +17,7 @@ traceLayout entries = 4 ∷ arrays entries
 abbrev pub traceLength : ℕ → ℕ
 traceLength entries = 4 + 5 * entries
 
--- whether the trace of so many entries fits a buffer of so many bytes. There are traces of at most 4,096 entries, as there are files of no more.
+-- whether the trace of so many entries fits a buffer of so many bytes. 01 has no trace of more than 4,096 entries; parts that nobody has checked may have more, and get none.
 abbrev pub traceFits : ℕ → ℕ → Bool
 traceFits entries room = leb entries 4096 && leb (traceLength entries) room
 

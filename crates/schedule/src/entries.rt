@@ -10,7 +10,7 @@ use terms::Refusal;
 use terms::Sizes;
 use terms::entry_of;
 
-// What stands at a place of the two parts of a file: kind bytes, and four bytes for each operand.
+// What stands at a place of the two parts of a file, kind bytes and four bytes for each operand; SHORT where one of them ends before it.
 fn meaning_at(sizes: Sizes, kinds: &[u8], operands: &[u8], at: usize) -> Meaning
     ensures { λ r. ⌜ r ≡ entryAt sizes (now (kinds .entry)) (wordsIn (now (operands .entry))) at ⌝ }
 {
@@ -22,7 +22,8 @@ fn meaning_at(sizes: Sizes, kinds: &[u8], operands: &[u8], at: usize) -> Meaning
     Meaning::Refused(Refusal::Short)
 }
 
-// Whether all entries of the two parts of a file are allowed, by its decoded sizes. The first that is not decides. Parts that do not belong together are SHORT.
+// Whether all entries of the two parts of a file are allowed, by its decoded sizes. The first that is not decides. Parts that do not belong together, since there are not
+// four bytes of operand for each kind, are SHORT before any entry is looked at.
 pub fn check_entries(sizes: Sizes, kinds: &[u8], operands: &[u8]) -> Check
     ensures { λ r. ⌜ r ≡ checkParts sizes (now (kinds .entry)) (now (operands .entry)) ⌝ }
     ensures { λ r. ⌜ PartsTellFirstFault sizes (now (kinds .entry)) (now (operands .entry)) r ⌝ }

@@ -1,4 +1,4 @@
-// The lengths of a file's parts: how many bytes the seven sizes have, and how many each entry has, a kind and an operand.
+// How many bytes the seven sizes of a file have, and how many each entry has: in a file a kind and an operand, in a trace an outcome and a value.
 pub const SIZES_BYTES: usize = 28;
 
 pub const ENTRY_BYTES: usize = 5;

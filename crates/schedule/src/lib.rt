@@ -9,13 +9,13 @@
 //       operand_part
 //     obey_entries     from the sizes and the two parts: the totals, and the trace, if it fits the memory that is lent for it
 //
-// `run` goes that way, and so do the libraries above that run files. It obeys nothing, and touches nothing of the memory that the caller lends
+// `run` goes that way, and so do the libraries above that run files. `run` obeys nothing, and touches nothing of the memory that the caller lends
 // for the trace, unless the file is read and the trace fits. With enough margin the answers in that trace are those of a plain queue, and its
 // promise says so (`specs/Demand3.antt`). `step` is one entry of a run, to watch; `entry_at` is the entry to hand it.
 //
 // The reader goes by one layout (`specs/Format.antt`), and so does the writer, the library `writer`, which shares the check of the
 // sizes and the lengths of a file's parts. Sizes, entries with their kinds, outcomes, refusals and totals are those of the
-// library `terms`. No function here asks anything of its caller. Reading order:
+// library `terms`. No public function asks anything of its caller. Reading order:
 //
 // - `check`: the answer of a check, and the check of the sizes;
 // - `layout`: the lengths of a file's parts, and of the longest trace;

@@ -39,7 +39,7 @@ fn sizes_in(file: &[u8]) -> Sizes
     }
 }
 
-// Decodes the sizes, and checks them and the length that they ask for: all that is looked at before the entries.
+// Decodes the sizes, and checks them and the length that they ask for: all that is looked at before the entries, of which the answer says nothing yet.
 fn read_sizes(file: &[u8]) -> Reading
     ensures { λ r. ⌜ r ≡ readingOf (now (file .entry)) (first (sizeChecks (now (file .entry)))) ⌝ }
 {
@@ -76,7 +76,7 @@ pub fn read(file: &[u8]) -> Reading
     }
 }
 
-// Why nothing comes of a file: its own refusal or, of an accepted one, ROOM.
+// Why nothing came of a file, for whoever knows that nothing did: its own refusal or, of an accepted one, ROOM.
 pub fn refusal_of(reading: Reading) -> Refusal
     ensures { λ r. ⌜ r ≡ refusalOf reading ⌝ }
 {
@@ -96,7 +96,8 @@ fn holds_kinds(bytes: usize, entries: usize) -> bool
     entries <= bytes - SIZES_BYTES
 }
 
-// The part of a file that its kinds are, one byte each, by what reading it answered; an empty part, if it is refused.
+// The part of a file that its kinds are, one byte each, as the answer of `read` says; an empty part, if the file is refused, or the answer is another file's and asks for
+// more kinds than this one has bytes behind its sizes.
 pub fn kind_part(file: &[u8], reading: Reading) -> &[u8]
     ensures { λ r. ⌜ now r ≡ kindPart (now (file .entry)) reading ⌝ }
     ensures { λ r. ⌜ r .ptr ≡ behind (kindStart (now (file .entry)) reading) (file .entry .ptr) ⌝ }
@@ -110,7 +111,7 @@ pub fn kind_part(file: &[u8], reading: Reading) -> &[u8]
     &file[SIZES_BYTES..SIZES_BYTES + entries]
 }
 
-// The part of a file that its operands are, four bytes each, to the end, by what reading it answered; an empty part, if it is refused.
+// The part of a file that its operands are, four bytes each, to the end, as the answer of `read` says; an empty part, likewise.
 pub fn operand_part(file: &[u8], reading: Reading) -> &[u8]
     ensures { λ r. ⌜ now r ≡ operandPart (now (file .entry)) reading ⌝ }
     ensures { λ r. ⌜ r .ptr ≡ behind (operandStart (now (file .entry)) reading) (file .entry .ptr) ⌝ }

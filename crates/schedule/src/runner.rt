@@ -61,7 +61,7 @@ pub fn step(machine: Machine, tally: Tally, entry: Entry) -> Stepped
     }
 }
 
-// Whether the trace of so many entries fits a buffer of so many bytes.
+// Whether the trace of so many entries fits a buffer of so many bytes. There is none of more than 4,096 entries, as there is no file of more.
 fn trace_fits(entries: usize, room: usize) -> bool
     ensures { λ r. ⌜ r ≡ traceFits entries room ⌝ }
 {
@@ -93,8 +93,8 @@ fn put_count(trace: &mut [u8], entries: usize)
     }
 }
 
-// Obeys the entries of the two parts of a file, from a machine with the file's sizes, and tells the totals. It puts the trace into a buffer, if it fits there; else the
-// buffer stays as it was.
+// The loop of `obey_entries`, from any machine. It stands by itself because the compiler copies the machine less in a function that is called from one place
+// (`docs/ARCHITECTURE.md`).
 fn obey_from(mut machine: Machine, kinds: &[u8], operands: &[u8], trace: &mut [u8]) -> Tally
     ensures { λ r. ⌜ r ≡ tallyOf (outcomesOf machine (entriesOf (machine .sizes) (now (kinds .entry)) (wordsIn (now (operands .entry))))) ⌝ }
     ensures { λ _. ⌜ now (trace .exit) ≡ tracePut (outcomesOf machine (entriesOf (machine .sizes) (now (kinds .entry)) (wordsIn (now (operands .entry))))) (now (trace .entry)) ⌝ }
@@ -116,8 +116,9 @@ fn obey_from(mut machine: Machine, kinds: &[u8], operands: &[u8], trace: &mut [u
     tally
 }
 
-// Obeys the entries of the two parts of a file, from the fresh machine with these sizes. Whoever runs a file that was read, runs it by this function, with a buffer
-// for the trace or with none. It checks nothing: with sizes out of range every outcome is 7, and so is that of a place with no allowed entry.
+// Obeys the entries of the two parts of a file, from the fresh machine with these sizes, tells the totals, and puts the trace into a buffer, if it fits; else the buffer
+// stays as it was, and whoever wants the totals alone lends an empty one. Whoever runs a file that was read, runs it by this function. It checks nothing: with sizes
+// out of range every outcome is 7, and so is that of a place with no allowed entry.
 pub fn obey_entries(sizes: Sizes, kinds: &[u8], operands: &[u8], trace: &mut [u8]) -> Tally
     ensures { λ r. ⌜ r ≡ tallyOf (outcomesFrom sizes (now (kinds .entry)) (wordsIn (now (operands .entry)))) ⌝ }
     ensures { λ _. ⌜ now (trace .exit) ≡ tracePut (outcomesFrom sizes (now (kinds .entry)) (wordsIn (now (operands .entry)))) (now (trace .entry)) ⌝ }

@@ -19,29 +19,29 @@ abbrev μ-loop : tie.MeasureT-loop
 loop-holds : tie.Need-loop-holds Inv-loop μ-loop
 loop-holds c =
     let a = c .before .before .before .before .before .before .before .before .args in
-    compared-first (a .party) (a .sizes) (a .kinds .now) (wordsIn (a .operands .now)) (a .trace .now) (a .others .now) (wordsIn (a .other-operands .now)) (a .other-trace .now) _ _
+    compared-first (a .party) (a .sizes) (a .kinds .now) (wordsIn (a .operands .now)) (a .trace .now) (a .other-kinds .now) (wordsIn (a .other-operands .now)) (a .other-trace .now) _ _
     (c .before .next-answer .ensures) (c .next-answer2 .ensures)
 
 returns : tie.Need-returns Inv-loop μ-loop
 returns c =
     let turn = c .before in
     let a = turn .before .before .before .before .before .before .before .before .before .before .args in
-    sym (compared-fewer (a .party) (a .sizes) (a .kinds .now) (wordsIn (a .operands .now)) (a .trace .now) (a .others .now) (wordsIn (a .other-operands .now)) (a .other-trace .now) _ _ (turn .before .loop .inv)
+    sym (compared-fewer (a .party) (a .sizes) (a .kinds .now) (wordsIn (a .operands .now)) (a .trace .now) (a .other-kinds .now) (wordsIn (a .other-operands .now)) (a .other-trace .now) _ _ (turn .before .loop .inv)
     (turn .loop-test .taken) (le-of-eq (sym (c .if1 .taken))))
 
 same-line-requires : tie.Need-same-line-requires Inv-loop μ-loop
 same-line-requires c κs =
     let turn = c .before in
     let start = turn .before .before .before .before .before .before .before .before .before .before in
-    let before : turn .before .loop .there < length (start .args .others .now) = omega (arith, turn .before .loop .inv .other-rests .0, c .if1 .left) in
+    let before : turn .before .loop .there < length (start .args .other-kinds .now) = omega (arith, turn .before .loop .inv .other-rests .0, c .if1 .left) in
     ((start .pre .0 .0, turn .loop-test .taken, start .pre .0 .1), (start .pre .1 .0, before, start .pre .1 .1))
 
 returns-2 : tie.Need-returns-2 Inv-loop μ-loop
 returns-2 c =
     let turn = c .before .before .before in
     let a = turn .before .before .before .before .before .before .before .before .before .before .args in
-    let before : turn .before .loop .there < length (a .others .now) = omega (arith, turn .before .loop .inv .other-rests .0, c .before .before .if1 .left) in
-    sym (compared-differ (a .party) (a .sizes) (a .kinds .now) (wordsIn (a .operands .now)) (a .trace .now) (a .others .now) (wordsIn (a .other-operands .now)) (a .other-trace .now) _ _ (turn .before .loop .inv)
+    let before : turn .before .loop .there < length (a .other-kinds .now) = omega (arith, turn .before .loop .inv .other-rests .0, c .before .before .if1 .left) in
+    sym (compared-differ (a .party) (a .sizes) (a .kinds .now) (wordsIn (a .operands .now)) (a .trace .now) (a .other-kinds .now) (wordsIn (a .other-operands .now)) (a .other-trace .now) _ _ (turn .before .loop .inv)
     (turn .loop-test .taken) before (denied (c .before .same-line .ensures) (c .if2 .taken)))
 
 next-answer-requires-3 : tie.Need-next-answer-requires-3 Inv-loop μ-loop
@@ -67,15 +67,15 @@ loop-again : tie.Need-loop-again Inv-loop μ-loop
 loop-again c =
     let turn = c .before .before .before .before .before in
     let a = turn .before .before .before .before .before .before .before .before .before .before .args in
-    let before : turn .before .loop .there < length (a .others .now) = omega (arith, turn .before .loop .inv .other-rests .0, c .before .before .before .before .if1 .left) in
-    compared-next (a .party) (a .sizes) (a .kinds .now) (wordsIn (a .operands .now)) (a .trace .now) (a .others .now) (wordsIn (a .other-operands .now)) (a .other-trace .now) _ _ (turn .before .loop .inv)
+    let before : turn .before .loop .there < length (a .other-kinds .now) = omega (arith, turn .before .loop .inv .other-rests .0, c .before .before .before .before .if1 .left) in
+    compared-next (a .party) (a .sizes) (a .kinds .now) (wordsIn (a .operands .now)) (a .trace .now) (a .other-kinds .now) (wordsIn (a .other-operands .now)) (a .other-trace .now) _ _ (turn .before .loop .inv)
     (turn .loop-test .taken) before (granted (c .before .before .before .same-line .ensures) (c .before .before .if2 .left)) _ _
     (c .before .next-answer3 .ensures) (c .next-answer4 .ensures)
 
 returns-3 : tie.Need-returns-3 Inv-loop μ-loop
 returns-3 c =
     let a = c .before .before .before .before .before .before .before .before .before .before .args in
-    sym (compared-end (a .party) (a .sizes) (a .kinds .now) (wordsIn (a .operands .now)) (a .trace .now) (a .others .now) (wordsIn (a .other-operands .now)) (a .other-trace .now) _ _ (c .before .loop .inv)
+    sym (compared-end (a .party) (a .sizes) (a .kinds .now) (wordsIn (a .operands .now)) (a .trace .now) (a .other-kinds .now) (wordsIn (a .other-operands .now)) (a .other-trace .now) _ _ (c .before .loop .inv)
     (c .loop-test .left))
 
 pub same-for-spec : {M : Type 1} → statement M

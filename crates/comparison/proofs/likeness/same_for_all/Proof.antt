@@ -28,7 +28,7 @@ returns c =
     let turn = test .before .before in
     let a = turn .before .before .before .before .before .before .before .args in
     let inside : turn .loop .party < a .sizes .thieves + 1 = omega (arith, test .if1 .taken) in
-    sym (all-stops (sameFor (a .sizes) (a .kinds .now) (wordsIn (a .operands .now)) (a .trace .now) (a .others .now) (wordsIn (a .other-operands .now)) (a .other-trace .now)) (a .sizes .thieves + 1) _ inside
+    sym (all-stops (sameFor (a .sizes) (a .kinds .now) (wordsIn (a .operands .now)) (a .trace .now) (a .other-kinds .now) (wordsIn (a .other-operands .now)) (a .other-trace .now)) (a .sizes .thieves + 1) _ inside
     (denied (c .before .same-for .ensures) (c .if2 .taken)))
 
 loop-again : tie.Need-loop-again Inv-loop μ-loop
@@ -36,7 +36,7 @@ loop-again c =
     let test = c .before .before in
     let turn = test .before .before in
     let a = turn .before .before .before .before .before .before .before .args in (
-      all-next (sameFor (a .sizes) (a .kinds .now) (wordsIn (a .operands .now)) (a .trace .now) (a .others .now) (wordsIn (a .other-operands .now)) (a .other-trace .now)) _ (turn .loop .inv .0)
+      all-next (sameFor (a .sizes) (a .kinds .now) (wordsIn (a .operands .now)) (a .trace .now) (a .other-kinds .now) (wordsIn (a .other-operands .now)) (a .other-trace .now)) _ (turn .loop .inv .0)
           (granted (c .before .same-for .ensures) (c .if2 .left)),
       omega (arith, test .if1 .taken),
     )
@@ -46,7 +46,7 @@ returns-2 c =
     let turn = c .before .before in
     let a = turn .before .before .before .before .before .before .before .args in
     let last : turn .loop .party ≡ a .sizes .thieves + 1 = omega (arith, c .if1 .left, turn .loop .inv .1) in
-    sym (subst (λ n. all (sameFor (a .sizes) (a .kinds .now) (wordsIn (a .operands .now)) (a .trace .now) (a .others .now) (wordsIn (a .other-operands .now)) (a .other-trace .now)) (range n) ≡ true) last (turn .loop .inv .0))
+    sym (subst (λ n. all (sameFor (a .sizes) (a .kinds .now) (wordsIn (a .operands .now)) (a .trace .now) (a .other-kinds .now) (wordsIn (a .other-operands .now)) (a .other-trace .now)) (range n) ≡ true) last (turn .loop .inv .0))
 
 pub same-for-all-spec : {M : Type 1} → statement M
 same-for-all-spec =

@@ -20,7 +20,7 @@ same-for-all-requires c κs =
     let a = start .args in
     let zeros = replicate {A = ℕ} 20484 0 in
     let n = length (a .kinds .now) in
-    let m = length (a .others .now) in (
+    let m = length (a .other-kinds .now) in (
       (subst (λ k. 4 + 5 * n ≤ k) (sym (first .obey-entries .kept .1 .1 .1 .0)) (fits-room n (length zeros) (longest-fits n (start .pre .0))), start .pre .0),
       (subst (λ k. 4 + 5 * m ≤ k) (sym (ran .obey-entries2 .kept .1 .1 .1 .0)) (fits-room m (length zeros) (longest-fits m (start .pre .1))), start .pre .1),
     )
@@ -38,11 +38,11 @@ returns c =
     let bytes = each-below 256 (a .operands .now) (λ i. omega (arith, known .before .before .shared-slice-known2 .given i)) in
     let other-bytes = each-below 256 (a .other-operands .now) (λ i. omega (arith, known .shared-slice-known4 .given i)) in
     let trace = first .obey-entries .ensures .1 ∙ longest-put (a .sizes) (a .kinds .now) operands (start .pre .0) in
-    let other-trace = ran .obey-entries2 .ensures .1 ∙ longest-put (a .sizes) (a .others .now) other-operands (start .pre .1) in
+    let other-trace = ran .obey-entries2 .ensures .1 ∙ longest-put (a .sizes) (a .other-kinds .now) other-operands (start .pre .1) in
     c .same-for-all .ensures
-    ∙ same-runs (a .sizes) (a .kinds .now) operands (first .obey-entries .last .1 .1 .1 .0) (a .others .now) other-operands (ran .obey-entries2 .last .1 .1 .1 .0)
+    ∙ same-runs (a .sizes) (a .kinds .now) operands (first .obey-entries .last .1 .1 .1 .0) (a .other-kinds .now) other-operands (ran .obey-entries2 .last .1 .1 .1 .0)
     (λ party. ap (λ t. linesFrom party (a .sizes) (a .kinds .now) operands t 0) trace ∙ lines-of-run party (a .sizes) (a .kinds .now) operands zeros (parts-values-fit (a .sizes) (a .kinds .now) (a .operands .now) bytes))
-    (λ party. ap (λ t. linesFrom party (a .sizes) (a .others .now) other-operands t 0) other-trace ∙ lines-of-run party (a .sizes) (a .others .now) other-operands zeros (parts-values-fit (a .sizes) (a .others .now) (a .other-operands .now) other-bytes))
+    (λ party. ap (λ t. linesFrom party (a .sizes) (a .other-kinds .now) other-operands t 0) other-trace ∙ lines-of-run party (a .sizes) (a .other-kinds .now) other-operands zeros (parts-values-fit (a .sizes) (a .other-kinds .now) (a .other-operands .now) other-bytes))
 
 pub same-runs-spec : {M : Type 1} → statement M
 same-runs-spec =
