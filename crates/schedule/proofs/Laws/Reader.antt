@@ -17,7 +17,7 @@ use Rattle.number.proofs.Laws.Words.{word-there}
 use Rattle.schedule.specs.Check.{checkRanges, failIf, first}
 use Rattle.schedule.specs.Format.{entriesIn, kindsIn, operandsIn, sizeIn, sizesIn, wordsIn}
 use Rattle.schedule.specs.Entries.{checkEntries, checkParts}
-use Rattle.schedule.specs.Reader.{behind, holdsKinds, kindPart, operandPart, readFile, readingChecks, readingOf, sizeChecks}
+use Rattle.schedule.specs.Reader.{behind, holdsKinds, kindPart, operandPart, partOf, readFile, readingChecks, readingOf, sizeChecks, startOf}
 use Rattle.schedule.proofs.Laws.Check.{failIf-passed, first-append, first-append-failed, first-failed, first-one, first-passed}
 use Rattle.schedule.proofs.Laws.Entries.{parts-together}
 use Rattle.schedule.proofs.Laws.Format.{getD-words, kindsIn-part, length-kindsIn, operandsIn-part}
@@ -30,8 +30,29 @@ pub part-to-end : (at : ℕ) (l : List ℕ) → take (length l - at) (drop at l)
 part-to-end at l = take-all (length l - at) (drop at l) (le-of-eq (length-drop at l))
 
 -- nothing behind a place is that place
-pub behind-none : (place : ℕ × ℕ) → behind 0 place ≡ place
+behind-none : (place : ℕ × ℕ) → behind 0 place ≡ place
 behind-none place = λ i. (place .0, zero-add (place .1) i)
+
+-- what is cut out of a file that lies at a place, and where the part lies, by the answer that is handed in
+module _ (file : List ℕ) (place : ℕ × ℕ) (part : ℕ → List ℕ) (start : ℕ → ℕ) where
+  abbrev pub IsPart : Reading → List ℕ → ℕ × ℕ → Type 0
+  IsPart answer cut at = (cut ≡ partOf file answer part) × (at ≡ behind (startOf file answer start) place)
+
+  pub cut-refused : {answer : Reading} {r : Refusal} → answer ≡ Refused r → IsPart answer [] place
+  cut-refused told = (sym (ap (λ a. partOf file a part) told), sym (ap (λ a. behind (startOf file a start) place) told ∙ behind-none place))
+
+  module _ {answer : Reading} {s : Sizes} {n : ℕ} (told : answer ≡ Accepted s n) where
+    pub cut-nothing : holdsKinds file n ≡ false → IsPart answer [] place
+    cut-nothing none = (
+      sym (ap (λ a. partOf file a part) told ∙ by-test _ _ none),
+      sym (ap (λ a. behind (startOf file a start) place) told ∙ ap (λ k. behind k place) (by-test _ _ none) ∙ behind-none place),
+    )
+
+    pub cut-there : holdsKinds file n ≡ true → {cut : List ℕ} → cut ≡ part n → IsPart answer cut (behind (start n) place)
+    cut-there held cut = (
+      cut ∙ sym (ap (λ a. partOf file a part) told ∙ by-test _ _ held),
+      sym (ap (λ a. behind (startOf file a start) place) told ∙ ap (λ k. behind k place) (by-test _ _ held)),
+    )
 
 module _ (file : List ℕ) where
   -- the size at each place of the table lies at four times its place
