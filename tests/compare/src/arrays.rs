@@ -4,6 +4,7 @@
 use reference::Sizes;
 
 use crate::random::Random;
+use crate::sides::from_file_order;
 
 /// The kinds' lengths are below this one.
 const KINDS: usize = 300;
@@ -71,15 +72,8 @@ impl Arrays {
 }
 
 fn sizes(thieves: u32, random: &mut Random) -> Sizes {
-    let [slots, buffer, spacing, margin, start] = std::array::from_fn(|_| random.below(300));
-    Sizes {
-        slots,
-        buffer,
-        spacing,
-        margin,
-        thieves,
-        start,
-    }
+    let others = from_file_order(&std::array::from_fn(|_| random.below(300)));
+    Sizes { thieves, ..others }
 }
 
 /// An entry that is allowed, its kind and its operand.
