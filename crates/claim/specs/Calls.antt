@@ -2,8 +2,9 @@
 -- is told and when. An effect, in 01's word, is a linearization point.
 use mathlib.Core.Bool.{Bool, true, false, cond}
 use mathlib.Core.List.{List, [], _∷_, map}
-use Prim.Native.Nat.{ℕ}
+use Prim.Native.Nat.{ℕ, zero, suc}
 use lib.Dec.{eqb}
+use Rattle.terms.specs.Kinds.{partyNumber}
 use Rattle.terms.specs.Lists.{concatMap, range}
 use Rattle.terms.specs.Outcome.{isAnswer, isRefusal}
 use Rattle.claim.specs.Types.{Entry, Drain, ClientStore, BeginPut, BeginTake, WorkerStep, BeginSteal, ThiefStep, Outcome, Moved, Place, Early, Wait, Stored, Task, Empty, Abort, Full, End, Sizes}
@@ -14,6 +15,11 @@ use Rattle.claim.specs.PlainQueue.{Told, toldPut, toldTake, toldSteal, R
 pub data Party : Type 0 where
   worker : Party
   thief : ℕ → Party
+
+-- parties counted, as entries tell theirs
+abbrev pub counted : ℕ → Party
+counted zero = worker
+counted (suc i) = thief i
 
 abbrev pub sameParty : Party → Party → Bool
 sameParty worker worker = true
@@ -102,15 +108,9 @@ taskIn End = []
 
 -- ── The seven kinds of entry ────────────────────────────────────────────────────────────────────────────────────────────────
 
--- whose entry it is; a drain is the worker's
+-- whose entry it is
 abbrev pub partyOf : Entry → Party
-partyOf Drain = worker
-partyOf ClientStore = worker
-partyOf (BeginPut x) = worker
-partyOf BeginTake = worker
-partyOf WorkerStep = worker
-partyOf (BeginSteal i) = thief i
-partyOf (ThiefStep i) = thief i
+partyOf e = counted (partyNumber e)
 
 -- what it begins
 abbrev pub begunBy : Entry → Begun

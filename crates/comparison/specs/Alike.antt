@@ -4,25 +4,16 @@ use mathlib.Core.Bool.{Bool, true, false, cond, _&&_}
 use mathlib.Core.List.{List, [], _∷_}
 use Prim.Native.Nat.{ℕ, _+_, _<_}
 use lib.Dec.{eqb}
+use Rattle.terms.specs.Kinds.{partyNumber}
 use Rattle.terms.specs.Lists.{all, range}
 use Rattle.terms.specs.Outcome.{isAnswer}
 use Rattle.terms.specs.Refusal.{Refuses}
-use Rattle.claim.specs.Calls.{Party, worker, thief, partyOf}
 use Rattle.comparison.specs.Types.{Accepted, Alike, Entry, FirstRefused, Likeness, NotAlike, Outcome, Reading, SecondRefused, Sizes}
 use Rattle.schedule.specs.declared.reader.Reading.the-variants as reading
 use Rattle.schedule.specs.Faults.{fileHas}
 use Rattle.schedule.specs.Reader.{readFile}
 use Rattle.schedule.specs.Run.{outcomesIn, scheduleIn}
 use Rattle.schedule.specs.Trace.{Line, lineOf}
-
--- parties counted: the worker is 0, and thief i is i + 1
-abbrev pub counted : Party → ℕ
-counted worker = 0
-counted (thief i) = i + 1
-
--- whose entry it is
-abbrev pub partyNumber : Entry → ℕ
-partyNumber e = counted (partyOf e)
 
 -- the answers that a party gets, with their values, in their order; 0, 5, 6 and 7 are no answers
 abbrev pub answersFor : ℕ → List Entry → List Outcome → List Line

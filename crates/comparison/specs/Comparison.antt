@@ -8,7 +8,8 @@ use lib.ListN.{length}
 use Rattle.terms.specs.Outcome.{isAnswerNumber}
 use Rattle.terms.specs.Lists.{all, concatMap, rangeFrom, range}
 use Rattle.comparison.specs.Types.{Sizes}
-use Rattle.comparison.specs.Alike.{answersFor, partyNumber, sameLines}
+use Rattle.terms.specs.Kinds.{partyNumber}
+use Rattle.comparison.specs.Alike.{answersFor, sameLines}
 use Rattle.schedule.specs.Entries.{entryAt, entryToObey}
 use Rattle.schedule.specs.Run.{entriesOf, outcomesFrom}
 use Rattle.schedule.specs.Trace.{Line, lineIn}

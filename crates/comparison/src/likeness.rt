@@ -1,7 +1,7 @@
 ghost use mathlib.Core.Path.{_≡_};
 ghost use Prim.Native.Nat.{_+_, _*_, _-_, _≤_, _<_};
 ghost use lib.ListN.{length};
-ghost use Rattle.comparison.specs.Alike.{LikenessRefuses, likeness, partyNumber, sameLine, sameSizes};
+ghost use Rattle.comparison.specs.Alike.{LikenessRefuses, likeness, sameLine, sameSizes};
 ghost use Rattle.comparison.specs.Comparison.{answered, firstFrom, sameFor, sameForAll, sameRuns};
 ghost use Rattle.schedule.specs.Format.{wordsIn};
 ghost use Rattle.schedule.specs.Trace.{lineIn};
@@ -14,7 +14,6 @@ use schedule::obey_entries;
 use schedule::operand_part;
 use schedule::read;
 use schedule::refusal_of;
-use terms::Entry;
 use terms::Refusal;
 use terms::Sizes;
 use terms::is_answer;
@@ -53,21 +52,6 @@ fn same_sizes(first: Sizes, second: Sizes) -> bool
     first.start == second.start
 }
 
-// Whose entry it is: the worker is party 0, thief i is party i + 1.
-fn party_of(entry: Entry) -> usize
-    ensures { λ r. ⌜ r ≡ partyNumber entry ⌝ }
-{
-    match entry {
-        Entry::Drain => 0,
-        Entry::ClientStore => 0,
-        Entry::BeginPut(_) => 0,
-        Entry::BeginTake => 0,
-        Entry::WorkerStep => 0,
-        Entry::BeginSteal(thief) => thief as usize + 1,
-        Entry::ThiefStep(stepping) => stepping as usize + 1,
-    }
-}
-
 // The place of the first entry, from a given one on, that gets an answer for the party; the number of entries, if there is none.
 fn next_answer(
     party: usize,
@@ -83,7 +67,8 @@ fn next_answer(
     let mut at = from;
     while at < kinds.len() {
         if is_answer(trace[4 + at]) {
-            if party_of(entry_at(sizes, kinds, operands, at)) == party {
+            let entry = entry_at(sizes, kinds, operands, at);
+            if entry.party() == party {
                 return at;
             }
         }

@@ -62,10 +62,6 @@ pub(crate) fn put_bytes(text: &mut [u8], at: usize, bytes: &[u8]) -> usize
     ensures { λ r. ⌜ r ≡ at + length (now (bytes .entry)) ⌝ }
     ensures { λ _. ⌜ now (text .exit) ≡ overwritten at (now (bytes .entry)) (now (text .entry)) ⌝ }
 {
-    let mut i = 0;
-    while i < bytes.len() {
-        text[at + i] = bytes[i];
-        i += 1;
-    }
+    number::put_bytes(text, at, bytes);
     at + bytes.len()
 }

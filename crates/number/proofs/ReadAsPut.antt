@@ -29,4 +29,4 @@ read-as-put at n l small there =
     )
 
 pub at-the-end : AtTheEnd
-at-the-end = (refl, refl, refl, refl, refl, refl, refl)
+at-the-end = (refl, refl, refl, refl, refl, refl, refl, refl, refl, refl, refl)

@@ -5,6 +5,7 @@ use mathlib.Core.List.{List, [], _∷_, _++_}
 use Prim.Native.Nat.{ℕ, zero, suc, _+_, _*_, _/_, _%_, _≤_, _<_}
 use lib.Dec.{leb}
 use lib.ListN.{length, drop, take}
+use Rattle.terms.specs.Lists.{concatMap}
 
 -- a number in so many bytes, the least significant first
 abbrev pub littleEndian : ℕ → ℕ → List ℕ
@@ -38,6 +39,16 @@ wordAt bytes at = cond (fits at (length bytes)) (ofBytes (take 4 (drop at bytes)
 abbrev pub wordPut : ℕ → ℕ → List ℕ → List ℕ
 wordPut at number bytes = cond (fits at (length bytes)) (overwritten at (littleEndian 4 number) bytes) bytes
 
+-- ── Several at once ─────────────────────────────────────────────────────────────────────────────────────────────────────────
+
+-- numbers of four bytes each, one behind the other
+abbrev pub wordBytes : List ℕ → List ℕ
+wordBytes numbers = concatMap (littleEndian 4) numbers
+
+-- bytes with others in those from a place on; as they were, if these are not all there
+abbrev pub bytesPut : ℕ → List ℕ → List ℕ → List ℕ
+bytesPut at new bytes = cond (leb (at + length new) (length bytes)) (overwritten at new bytes) bytes
+
 -- ── What reading and putting have to do with each other ─────────────────────────────────────────────────────────────────────
 
 -- A number of 32 bits that was put is read at its place, and no other byte has changed. Proved in `proofs/ReadAsPut.antt`, as is what follows.
@@ -58,3 +69,8 @@ AtTheEnd =
     × (wordPut 1 67305985 (9 ∷ 8 ∷ 7 ∷ 6 ∷ 5 ∷ []) ≡ 9 ∷ 1 ∷ 2 ∷ 3 ∷ 4 ∷ [])
     × (wordPut 2 67305985 (9 ∷ 8 ∷ 7 ∷ 6 ∷ 5 ∷ []) ≡ 9 ∷ 8 ∷ 7 ∷ 6 ∷ 5 ∷ [])
     × (wordPut 0 67305985 (9 ∷ 8 ∷ 7 ∷ []) ≡ 9 ∷ 8 ∷ 7 ∷ [])
+    -- and of several: those that just fit, one too many, and none, which fit anywhere within
+    × (bytesPut 1 (1 ∷ 2 ∷ []) (9 ∷ 8 ∷ 7 ∷ []) ≡ 9 ∷ 1 ∷ 2 ∷ [])
+    × (bytesPut 2 (1 ∷ 2 ∷ []) (9 ∷ 8 ∷ 7 ∷ []) ≡ 9 ∷ 8 ∷ 7 ∷ [])
+    × (bytesPut 3 [] (9 ∷ 8 ∷ 7 ∷ []) ≡ 9 ∷ 8 ∷ 7 ∷ [])
+    × (bytesPut 1 (wordBytes (67305985 ∷ 16909060 ∷ [])) (9 ∷ 9 ∷ 9 ∷ 9 ∷ 9 ∷ 9 ∷ 9 ∷ 9 ∷ 9 ∷ 9 ∷ []) ≡ 9 ∷ 1 ∷ 2 ∷ 3 ∷ 4 ∷ 4 ∷ 3 ∷ 2 ∷ 1 ∷ 9 ∷ [])

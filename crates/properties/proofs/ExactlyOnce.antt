@@ -25,7 +25,7 @@ use Rattle.machine.proofs.Linearizable.Theorem.{demand3, fresh-plain, invariant
 use Rattle.machine.proofs.Linearizable.Watched.{events-outcomes, watched-machine}
 use Rattle.properties.specs.Types.{Entry, Drain, ClientStore, BeginPut, BeginTake, WorkerStep, BeginSteal, ThiefStep, Machine, Outcome, Moved, Place, Early, Wait, Stored, Task, Empty, Abort, Full, End, Sizes, ThiefCall, StealLock, StealLoadHead, StealRaiseHead, StealLoadTail, StealLoadSlot, StealUnlockTask, StealRestoreHead, StealUnlockAbort, WorkerCall, PutLoadHead, PutStoreSlot, PutStoreTail, TakeStoreTail, TakeLoadHead, TakeLoadSlot, TakeLock, TakeReloadHead, TakeRestoreTail, TakeUnlockEmpty, TakeUnlockTask, TakeLoadLastSlot}
 use Rattle.properties.specs.Renumbering.{renumberEntry, renumberOutcome}
-use Rattle.properties.specs.ExactlyOnce.{ExactlyOnce, NoneLostOrGivenTwice, given, held, numberIn, numberPut, numberedApart, numberedFrom, standing, stored, storedPuts}
+use Rattle.properties.specs.ExactlyOnce.{AccountedByNumber, ExactlyOnce, NoneLostOrGivenTwice, given, held, numberIn, numberPut, numberedApart, numberedFrom, standing, stored, storedPuts}
 use Rattle.properties.proofs.Renumbering.{blind-to-numbers}
 
 -- ── Puts numbered apart ─────────────────────────────────────────────────────────────────────────────────────────────────────
@@ -79,49 +79,54 @@ from-next k j = go (eqb j k) (leb (k + 1) j) (leb k j) refl refl refl
     go false true false s a e = absurd (omega (arith, leb-true (k + 1) j a, leb-false k j e))
     go false false at s a e = omega arith
 
--- puts numbered from k up: of a number no more than one, and none of a lower one but that of the put that runs
-stored-few : (j k : ℕ) (running : List ℕ) (es : List Entry) (os : List Outcome)
-    → occurrences j (storedPuts running (numberedFrom k es) os) ≤ occurrences j running + from k j
-stored-few j k running [] os = omega arith
-stored-few j k running (Drain ∷ es) [] = omega arith
-stored-few j k running (ClientStore ∷ es) [] = omega arith
-stored-few j k running (BeginPut x ∷ es) [] = omega arith
-stored-few j k running (BeginTake ∷ es) [] = omega arith
-stored-few j k running (WorkerStep ∷ es) [] = omega arith
-stored-few j k running (BeginSteal i ∷ es) [] = omega arith
-stored-few j k running (ThiefStep i ∷ es) [] = omega arith
-stored-few j k running (Drain ∷ es) (o ∷ os) = stored-few j k running es os
-stored-few j k running (ClientStore ∷ es) (o ∷ os) = stored-few j k running es os
-stored-few j k running (BeginPut x ∷ es) (o ∷ os) = go (isMoved o) (λ r. stored-few j (k + 1) r es os)
+-- a number is put once at most, of those from k up, and no lower one
+numbered-few : (j k : ℕ) (es : List Entry) → occurrences j (concatMap numberPut (numberedFrom k es)) ≤ from k j
+numbered-few j k [] = omega arith
+numbered-few j k (Drain ∷ es) = numbered-few j k es
+numbered-few j k (ClientStore ∷ es) = numbered-few j k es
+numbered-few j k (BeginPut x ∷ es) = omega (arith, numbered-few j (k + 1) es, from-next k j)
+numbered-few j k (BeginTake ∷ es) = numbered-few j k es
+numbered-few j k (WorkerStep ∷ es) = numbered-few j k es
+numbered-few j k (BeginSteal i ∷ es) = numbered-few j k es
+numbered-few j k (ThiefStep i ∷ es) = numbered-few j k es
+
+-- of a number no more puts are STORED than are begun, the one that runs among them
+pub stored-put : (j : ℕ) (running : List ℕ) (es : List Entry) (os : List Outcome)
+    → occurrences j (storedPuts running es os) ≤ occurrences j running + occurrences j (concatMap numberPut es)
+stored-put j running [] os = omega arith
+stored-put j running (e ∷ es) [] = omega arith
+stored-put j running (Drain ∷ es) (o ∷ os) = stored-put j running es os
+stored-put j running (ClientStore ∷ es) (o ∷ os) = stored-put j running es os
+stored-put j running (BeginPut x ∷ es) (o ∷ os) = go (isMoved o) (λ r. stored-put j r es os)
   where
-    go : (moved : Bool) → ((r : List ℕ) → occurrences j (storedPuts r (numberedFrom (k + 1) es) os) ≤ occurrences j r + from (k + 1) j)
-        → occurrences j (storedPuts (cond moved (k ∷ []) running) (numberedFrom (k + 1) es) os) ≤ occurrences j running + from k j
-    go true few = omega (arith, few (k ∷ []), from-next k j)
-    go false few = omega (arith, few running, from-next k j)
-stored-few j k running (BeginTake ∷ es) (o ∷ os) = go (isMoved o) (λ r. stored-few j k r es os)
+    go : (moved : Bool) → ((r : List ℕ) → occurrences j (storedPuts r es os) ≤ occurrences j r + occurrences j (concatMap numberPut es))
+        → occurrences j (storedPuts (cond moved (x ∷ []) running) es os) ≤ occurrences j running + occurrences j (x ∷ concatMap numberPut es)
+    go true few = omega (arith, few (x ∷ []))
+    go false few = omega (arith, few running)
+stored-put j running (BeginTake ∷ es) (o ∷ os) = go (isMoved o) (λ r. stored-put j r es os)
   where
-    go : (moved : Bool) → ((r : List ℕ) → occurrences j (storedPuts r (numberedFrom k es) os) ≤ occurrences j r + from k j)
-        → occurrences j (storedPuts (cond moved [] running) (numberedFrom k es) os) ≤ occurrences j running + from k j
+    go : (moved : Bool) → ((r : List ℕ) → occurrences j (storedPuts r es os) ≤ occurrences j r + occurrences j (concatMap numberPut es))
+        → occurrences j (storedPuts (cond moved [] running) es os) ≤ occurrences j running + occurrences j (concatMap numberPut es)
     go true few = omega (arith, few [])
     go false few = few running
-stored-few j k running (WorkerStep ∷ es) (o ∷ os) = go (isAnswer o) (isStored o) refl refl (λ r. stored-few j k r es os)
+stored-put j running (WorkerStep ∷ es) (o ∷ os) = go (isAnswer o) (isStored o) refl refl (λ r. stored-put j r es os)
   where
     go : (answer done : Bool) → isAnswer o ≡ answer → isStored o ≡ done
-        → ((r : List ℕ) → occurrences j (storedPuts r (numberedFrom k es) os) ≤ occurrences j r + from k j)
-        → occurrences j (cond done running [] ++ storedPuts (cond answer [] running) (numberedFrom k es) os) ≤ occurrences j running + from k j
-    go true true a s few = omega (arith, adds-occurrences j .append running (storedPuts [] (numberedFrom k es) os), few [])
+        → ((r : List ℕ) → occurrences j (storedPuts r es os) ≤ occurrences j r + occurrences j (concatMap numberPut es))
+        → occurrences j (cond done running [] ++ storedPuts (cond answer [] running) es os) ≤ occurrences j running + occurrences j (concatMap numberPut es)
+    go true true a s few = omega (arith, adds-occurrences j .append running (storedPuts [] es os), few [])
     go true false a s few = omega (arith, few [])
     go false true a s few = absurd (false≢true (sym (stored-answers o a) ∙ s))
     go false false a s few = few running
-stored-few j k running (BeginSteal i ∷ es) (o ∷ os) = stored-few j k running es os
-stored-few j k running (ThiefStep i ∷ es) (o ∷ os) = stored-few j k running es os
+stored-put j running (BeginSteal i ∷ es) (o ∷ os) = stored-put j running es os
+stored-put j running (ThiefStep i ∷ es) (o ∷ os) = stored-put j running es os
 
 stored-once : (j : ℕ) (es : List Entry) (os : List Outcome) → occurrences j (storedPuts [] (numberedApart es) os) ≤ 1
-stored-once j es os = go (leb 1 j) (stored-few j 1 [] es os)
+stored-once j es os = go (leb 1 j) (numbered-few j 1 es)
   where
-    go : (t : Bool) → occurrences j (storedPuts [] (numberedApart es) os) ≤ 0 + cond t 1 0 → occurrences j (storedPuts [] (numberedApart es) os) ≤ 1
-    go true few = omega arith
-    go false few = omega arith
+    go : (t : Bool) → occurrences j (concatMap numberPut (numberedApart es)) ≤ cond t 1 0 → occurrences j (storedPuts [] (numberedApart es) os) ≤ 1
+    go true few = omega (arith, stored-put j [] (numberedApart es) os)
+    go false few = omega (arith, stored-put j [] (numberedApart es) os)
 
 -- ── STORED puts, by the watch ───────────────────────────────────────────────────────────────────────────────────────────────
 
@@ -268,30 +273,29 @@ concatMap-outcomes : (h : List Event) → concatMap (λ v. taskIn (v .outcome)) 
 concatMap-outcomes [] = refl
 concatMap-outcomes (v ∷ h) = ap (λ l. taskIn (v .outcome) ++ l) (concatMap-outcomes h)
 
-module _ (s : Sizes) (es : List Entry) (ranged : sizesInRange s ≡ true) (enough : enoughMargin s ≡ true) (short : length es ≤ 4096) where
-  -- by every count: what was given, is held or stands is what was STORED
-  all-accounted : (k : ℕ) → occurrences k (given s es ++ held s es ++ standing s es) ≡ occurrences k (stored s es)
-  all-accounted k =
-      let w₀ : Watch Machine = watchFresh ffThe s in
-      let h : List Event = events ffThe w₀ es in
-      let w : Watch Machine = watched ffThe w₀ es in
-      let l = demand3 s es ranged enough short in
-      omega (
-        arith,
-        account-numbers (adds-occurrences k) ffThe-lawful s es (l .answers) (l .held),
-        adds-occurrences k .append (given s es ++ held s es) (standing s es),
-        adds-occurrences k .append (given s es) (held s es),
-        adds-occurrences k .append (concatMap (λ v. taskIn (v .outcome)) h) (concatMap taskIn (concatMap (owes (w .machine)) (parties s))),
-        ap (occurrences k) (concatMap-outcomes h ∙ ap (concatMap taskIn) (events-outcomes w₀ es)),
-        ap (λ m. occurrences k (concatMap taskIn (concatMap (owes m) (parties s)))) (watched-machine w₀ es),
-        ap (occurrences k) (run-stands-now s es ranged enough),
-        ap (occurrences k) (run-stored stores-at-once (invariant-shows s enough) 0 w₀ es (omega arith) (fresh-plain s ranged) ∙ stored-as-read w₀ [] es (record { of-worker = refl; of-thief = λ i. refl })),
-      )
+-- by every count: what was given, is held or stands is what was STORED
+pub accounted-by-number : AccountedByNumber
+accounted-by-number s es ranged enough short k =
+    let w₀ : Watch Machine = watchFresh ffThe s in
+    let h : List Event = events ffThe w₀ es in
+    let w : Watch Machine = watched ffThe w₀ es in
+    let l = demand3 s es ranged enough short in
+    omega (
+      arith,
+      account-numbers (adds-occurrences k) ffThe-lawful s es (l .answers) (l .held),
+      adds-occurrences k .append (given s es ++ held s es) (standing s es),
+      adds-occurrences k .append (given s es) (held s es),
+      adds-occurrences k .append (concatMap (λ v. taskIn (v .outcome)) h) (concatMap taskIn (concatMap (owes (w .machine)) (parties s))),
+      ap (occurrences k) (concatMap-outcomes h ∙ ap (concatMap taskIn) (events-outcomes w₀ es)),
+      ap (λ m. occurrences k (concatMap taskIn (concatMap (owes m) (parties s)))) (watched-machine w₀ es),
+      ap (occurrences k) (run-stands-now s es ranged enough),
+      ap (occurrences k) (run-stored stores-at-once (invariant-shows s enough) 0 w₀ es (omega arith) (fresh-plain s ranged) ∙ stored-as-read w₀ [] es (record { of-worker = refl; of-thief = λ i. refl })),
+    )
 
 pub none-lost-or-given-twice : NoneLostOrGivenTwice
 none-lost-or-given-twice s es ranged enough short =
     record {
       outcomes = ap (outcomesOf (fresh s)) (sym (apart-back es)) ∙ blind-to-numbers (numberIn es) refl s (numberedApart es);
-      together = all-accounted s (numberedApart es) ranged enough (subst (λ n. n ≤ 4096) (sym (length-numbered 1 es)) short);
+      together = accounted-by-number s (numberedApart es) ranged enough (subst (λ n. n ≤ 4096) (sym (length-numbered 1 es)) short);
       once = λ k. stored-once k es (outcomesOf (fresh s) (numberedApart es));
     }

@@ -93,3 +93,10 @@ pub record ExactlyOnce (s : Sizes) (es : List Entry) : Type 0 where
 -- Of the lists that demand 3 speaks of. Each prefix of a list is a list, so it is true at every moment. Proved in `proofs/ExactlyOnce.antt`.
 abbrev pub NoneLostOrGivenTwice : Type 0
 NoneLostOrGivenTwice = (s : Sizes) (es : List Entry) → sizesInRange s ≡ true → enoughMargin s ≡ true → length es ≤ 4096 → ExactlyOnce s es
+
+-- As numbers alone, each as often, the account holds of a list as it stands. Numbers of its own choice do not tell its puts apart, unless no two puts have one number, as those of a share sheet's
+-- schedule (02's request 2). Proved in `proofs/ExactlyOnce.antt`.
+abbrev pub AccountedByNumber : Type 0
+AccountedByNumber =
+    (s : Sizes) (es : List Entry) → sizesInRange s ≡ true → enoughMargin s ≡ true → length es ≤ 4096
+    → Permutation (given s es ++ held s es ++ standing s es) (stored s es)

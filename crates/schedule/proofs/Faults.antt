@@ -1,13 +1,13 @@
 -- What is refused has the fault that is given, and what has a fault is refused: by the reader, and where a file is run.
 use mathlib.Core.Path.{_≡_, refl, ap, sym, _∙_, subst}
-use mathlib.Core.Bool.{Bool, true, false, and-false, not, _||_, false≢true}
+use mathlib.Core.Bool.{Bool, true, false, cond, and-false, not, _&&_, _||_, false≢true}
 use mathlib.Core.List.{List}
 use Prim.Native.Nat.{ℕ, zero, suc, _+_, _*_, _≤_, _<_}
 use native.Mathlib.Omega.{arith}
 use lib.Dec.{eqb, ltb}
 use lib.ListN.{getD, length}
-use borrow.Author.Tests.{eq-eqb, le-ltb, ltb-false, ltb-true}
-use Rattle.schedule.specs.Types.{Accepted, Failed, Kind, Passed, Reading, Refusal, Room, Running, Short, Size, Sizes, Who}
+use borrow.Author.Tests.{eq-eqb, eqb-true, le-ltb, ltb-false, ltb-true}
+use Rattle.schedule.specs.Types.{Accepted, Failed, Passed, Reading, Refusal, Running, Short, Sizes}
 use Rattle.schedule.specs.declared.reader.Reading.the-variants as reading
 use Rattle.schedule.specs.declared.runner.Running.the-variants as running
 use Rattle.schedule.specs.Check.{checkRanges}
@@ -38,13 +38,16 @@ module _ (s : Sizes) (entries : ℕ) (kinds operands : List ℕ) (wrongLength no
   pub ranges-fault : (r : Refusal) → checkRanges s entries ≡ Failed r → hasFault s entries kinds operands wrongLength noRoom r ≡ true
   ranges-fault r e = let found = ranges-failed s entries r e in rw (found .1 .0, found .1 .1)
 
-  -- a fault of an entry is one
-  entry-has : (r : Refusal) → entryHas s kinds operands (numberOf r) (placeOf r) ≡ true → hasFault s entries kinds operands wrongLength noRoom r ≡ true
-  entry-has (Size place) e = absurd (false≢true (sym (and-false (ltb place (length kinds))) ∙ e))
-  entry-has Short e = absurd (false≢true (sym (and-false (ltb 0 (length kinds))) ∙ e))
-  entry-has (Kind at) e = e
-  entry-has (Who at) e = e
-  entry-has Room e = absurd (false≢true (sym (and-false (ltb 0 (length kinds))) ∙ e))
+  -- a fault of an entry is one: it has none of the numbers 1, 2 and 8
+  entry-has : (number place : ℕ) → entryHas s kinds operands number place ≡ true → faultAt s entries kinds operands wrongLength noRoom number place ≡ true
+  entry-has number place e =
+      decide (λ b. b ≡ true) (eqb number 1) (λ one. absurd (other 1 one refl))
+      (λ not-one.
+      decide (λ b. b ≡ true) (eqb number 2) (λ two. absurd (other 2 two refl))
+      (λ not-two. decide (λ b. b ≡ true) (eqb number 8) (λ eight. absurd (other 8 eight refl)) (λ not-eight. e)))
+    where
+      other : (k : ℕ) → eqb number k ≡ true → entryHas s kinds operands k place ≡ (ltb place (length kinds) && false) → ⊥
+      other k same none = false≢true (sym (and-false (ltb place (length kinds))) ∙ sym none ∙ subst (λ n. entryHas s kinds operands n place ≡ true) (eqb-true number k same) e)
 
   -- what the check of an entry tells is a fault of this entry, or that the operands end before it
   entry-fault : (r : Refusal) → ((at : ℕ) → at < length kinds → length operands ≤ at → wrongLength ≡ true)
@@ -53,7 +56,7 @@ module _ (s : Sizes) (entries : ℕ) (kinds operands : List ℕ) (wrongLength no
   entry-fault r ends at inside e = go (ltb at (length operands)) refl
     where
       go : (there : Bool) → ltb at (length operands) ≡ there → hasFault s entries kinds operands wrongLength noRoom r ≡ true
-      go true p = entry-has r (entry-told s kinds operands at inside (ltb-true at (length operands) p) r e .0)
+      go true p = entry-has (numberOf r) (placeOf r) (entry-told s kinds operands at inside (ltb-true at (length operands) p) r e .0)
       go false p =
           let past = ltb-false at (length operands) p in
           let told = sym e ∙ ap checkOf (entryAt-no-operand s kinds operands at inside past) in
@@ -122,13 +125,15 @@ read-promises file answer told = (told, subst (λ r. Refuses (fileHas file) (ref
 
 -- ── Running ─────────────────────────────────────────────────────────────────────────────────────────────────────────────────
 
--- a fault that a file has when it is read, it has when it is run
-still-fault : (file : List ℕ) (noRoom : Bool) (r : Refusal) → fileHas file (numberOf r) (placeOf r) ≡ true → faultsOf file noRoom (numberOf r) (placeOf r) ≡ true
-still-fault file noRoom (Size place) e = e
-still-fault file noRoom Short e = e
-still-fault file noRoom (Kind at) e = e
-still-fault file noRoom (Who at) e = e
-still-fault file noRoom Room e = absurd (false≢true e)
+-- a fault that a file has when it is read, it has for whoever lends a buffer
+pub still-fault : (file : List ℕ) (noRoom : Bool) (number place : ℕ) → fileHas file number place ≡ true → faultsOf file noRoom number place ≡ true
+still-fault file noRoom number place e = go (eqb number 1) (eqb number 2) (eqb number 8) _ _ _ e
+  where
+    go : (one two eight a b c : Bool) → cond one a (cond two b (cond eight (eqb place 0 && false) c)) ≡ true → cond one a (cond two b (cond eight (eqb place 0 && noRoom) c)) ≡ true
+    go true two eight a b c p = p
+    go false true eight a b c p = p
+    go false false true a b c p = absurd (false≢true (sym (and-false (eqb place 0)) ∙ p))
+    go false false false a b c p = p
 
 pub runner-refuses-faults : RunnerRefusesFaults
 runner-refuses-faults file room = go (reader.readFile file) refl (reader-refuses-faults file)
@@ -137,7 +142,7 @@ runner-refuses-faults file room = go (reader.readFile file) refl (reader-refuses
     small n = ltb room (traceLength n)
 
     go : (answer : Reading) → reader.readFile file ≡ answer → Refuses (fileHas file) (refusalInReading (reader.readFile file)) → Refuses (runHas file room) (refusalInRunning (runningOf file room answer))
-    go (reading.Refused r) e faults = still-fault file (small (entriesIn file)) r (subst (λ a. Refuses (fileHas file) (refusalInReading a)) e faults)
+    go (reading.Refused r) e faults = still-fault file (small (entriesIn file)) (numberOf r) (placeOf r) (subst (λ a. Refuses (fileHas file) (refusalInReading a)) e faults)
     go (Accepted s n) e faults =
         decide (λ (a : Running). Refuses (runHas file room) (refusalInRunning a)) (small n)
         (λ full. ap small same ∙ full)

@@ -1,6 +1,5 @@
 pub mod Bytes
 pub mod Format
-pub mod Words
 pub mod Check
 pub mod Entries
 pub mod Reader

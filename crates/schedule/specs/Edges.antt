@@ -14,8 +14,8 @@ use Rattle.terms.specs.Sizes.{sized}
 use Rattle.schedule.specs.Types.{Accepted, Allowed, Check, Failed, Meaning, Passed, Reading, Short, Sizes}
 use Rattle.schedule.specs.Types.{BeginPut, BeginSteal, BeginTake, ClientStore, Drain, Entry, ThiefStep, WorkerStep}
 use Rattle.schedule.specs.declared.reader.Reading.the-variants as reading
-use Rattle.number.specs.Number.{littleEndian}
-use Rattle.schedule.specs.Format.{sizeBytes, sizeNumbers, wordBytes, wordsIn}
+use Rattle.number.specs.Number.{littleEndian, wordBytes}
+use Rattle.schedule.specs.Format.{sizeBytes, sizeNumbers, wordsIn}
 use Rattle.schedule.specs.Entries.{checkParts, entryAt, entryToObey}
 use Rattle.schedule.specs.Reader.{kindPart, kindStart, operandPart, operandStart, readFile, refusalOf}
 

@@ -78,10 +78,6 @@ operandsIn entries file = drop (7 + entries) (decode (layout entries) file)
 abbrev pub sizeBytes : Sizes → ℕ → List ℕ
 sizeBytes s entries = encode (layout 0) (sizeNumbers s entries)
 
--- numbers of four bytes each, as an operand array has them
-abbrev pub wordBytes : List ℕ → List ℕ
-wordBytes numbers = encode (replicate (length numbers) 4) numbers
-
 -- as many numbers of four bytes as some bytes hold
 abbrev pub wordsIn : List ℕ → List ℕ
 wordsIn bytes = decode (replicate (length bytes / 4) 4) bytes

@@ -1,8 +1,8 @@
--- Kinds of entries: what a kind byte means, and which operands are allowed. Renders "Kinds", of "The schedule file", and 3 KIND and 4 WHO, of "The numbers", as far as one
+-- Kinds of entries: what a kind byte means, which operands are allowed, and whose entry each is. Renders "Kinds", of "The schedule file", and 3 KIND and 4 WHO, of "The numbers", as far as one
 -- entry goes.
 use mathlib.Core.Bool.{Bool, cond}
 use mathlib.Core.List.{List, [], _∷_}
-use Prim.Native.Nat.{ℕ}
+use Prim.Native.Nat.{ℕ, suc}
 use lib.Dec.{eqb, ltb}
 use lib.ListN.{getD}
 use Rattle.terms.specs.Types.{Allowed, BeginPut, BeginSteal, BeginTake, ClientStore, Drain, Entry, Kind, Meaning, ThiefStep, Who, WorkerStep}
@@ -26,6 +26,16 @@ operandOf BeginTake = 0
 operandOf WorkerStep = 0
 operandOf (BeginSteal thief) = thief
 operandOf (ThiefStep thief) = thief
+
+-- whose entry it is, parties counted: the worker is 0, and thief i is i + 1; a drain is the worker's
+abbrev pub partyNumber : Entry → ℕ
+partyNumber Drain = 0
+partyNumber ClientStore = 0
+partyNumber (BeginPut task) = 0
+partyNumber BeginTake = 0
+partyNumber WorkerStep = 0
+partyNumber (BeginSteal thief) = suc thief
+partyNumber (ThiefStep thief) = suc thief
 
 -- an entry, if its operand is allowed; else WHO
 abbrev pub allowedIf : Bool → ℕ → Entry → Meaning

@@ -1,15 +1,15 @@
--- The paper's numbers, as one table over the definitions: each outcome with number and value, each refusal with number and place, sizes and entries of a file that are refused, and
--- margins that are enough or short. It refuses a number that is another in definition and code alike. `proofs/Numbers.antt` proves one fact: every row holds.
+-- The paper's numbers, as one table over the definitions: each outcome with number and value, each refusal with number and place, sizes and entries of a file that are refused, each kind of entry
+-- with its party, and margins that are enough or short. It refuses a number that is another in definition and code alike. `proofs/Numbers.antt` proves one fact: every row holds.
 use mathlib.Core.Bool.{Bool, true, false, not, _&&_}
 use mathlib.Core.List.{List, [], _∷_}
 use Prim.Native.Nat.{ℕ}
 use lib.Dec.{eqb}
-use Rattle.terms.specs.Types.{Abort, Allowed, AllInRange, Early, Empty, End, Full, Kind, Meaning, Moved, Outcome, OutOfRange, Place, Refusal, Room, Short, Size, SizeCheck, Sizes, Stored, Task, Wait, Who}
+use Rattle.terms.specs.Types.{Abort, Allowed, AllInRange, BeginPut, BeginSteal, BeginTake, Block, ClientStore, Drain, Early, Empty, End, Entry, Full, Kind, Margin, Meaning, Moved, Outcome, OutOfRange, Place, Refusal, Room, Short, Size, SizeCheck, Sizes, Stored, Task, ThiefStep, Wait, Who, WorkerStep}
 use Rattle.terms.specs.declared.kinds.Meaning.the-variants as meaning
 use Rattle.terms.specs.Outcome.{isAnswer, isAnswerNumber, isRefusal, numberOf, valueOf}
 use Rattle.terms.specs.Refusal.{refusedBy}
 use Rattle.terms.specs.Sizes.{checkSizes, enoughMargin, refusalInSizes, sized}
-use Rattle.terms.specs.Kinds.{entryOf}
+use Rattle.terms.specs.Kinds.{entryOf, partyNumber}
 
 pub data Row : Type 0 where
   -- an outcome's number and value, and whether it is an answer or a refusal
@@ -21,6 +21,8 @@ pub data Row : Type 0 where
   size : Sizes → (number place : ℕ) → Row
   -- an entry of a file, with so many thieves and at this place, that is refused
   entry : (thieves at kind operand number place : ℕ) → Row
+  -- whose entry it is
+  party : Entry → ℕ → Row
   -- whether the margin is enough
   enough : Sizes → Bool → Row
 
@@ -43,6 +45,7 @@ holds (answer n is) = same (isAnswerNumber n) is
 holds (refusal r number place) = refusedBy r number place
 holds (size s number place) = isRefused number place (refusalInSizes (checkSizes s))
 holds (entry thieves at kind operand number place) = isNoEntry number place (entryOf thieves at kind operand)
+holds (party e number) = eqb (partyNumber e) number
 holds (enough s is) = same (enoughMargin s) is
 
 abbrev pub numbers : List Row
@@ -65,6 +68,8 @@ numbers =
     ∷ refusal (Kind 5) 3 5
     ∷ refusal (Who 5) 4 5
     ∷ refusal Room 8 0
+    ∷ refusal Margin 9 3
+    ∷ refusal (Block 5) 10 5
     ∷ size (sized 1 1 0 0 1 0) 1 0
     ∷ size (sized 257 0 0 0 1 0) 1 0
     ∷ size (sized 2 0 0 0 1 0) 1 1
@@ -79,6 +84,15 @@ numbers =
     ∷ entry 2 5 0 1 4 5
     ∷ entry 2 5 5 2 4 5
     ∷ entry 2 5 6 2 4 5
+    ∷ party Drain 0
+    ∷ party ClientStore 0
+    ∷ party (BeginPut 5) 0
+    ∷ party BeginTake 0
+    ∷ party WorkerStep 0
+    ∷ party (BeginSteal 0) 1
+    ∷ party (BeginSteal 7) 8
+    ∷ party (ThiefStep 0) 1
+    ∷ party (ThiefStep 7) 8
     -- a margin just enough, one short, 0, which is the buffer size, and one beyond the buffer
     ∷ enough (sized 4 33 1 17 1 0) true
     ∷ enough (sized 4 33 1 16 1 0) false

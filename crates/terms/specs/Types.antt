@@ -6,7 +6,7 @@ pub use Rattle.terms.specs.declared.kinds.Meaning.the-variants.{Allowed}
 pub use Rattle.terms.specs.declared.outcome.Outcome.{Outcome}
 pub use Rattle.terms.specs.declared.outcome.Outcome.the-variants.{Moved, Place, Early, Wait, Stored, Task, Empty, Abort, Full, End}
 pub use Rattle.terms.specs.declared.refusal.Refusal.{Refusal}
-pub use Rattle.terms.specs.declared.refusal.Refusal.the-variants.{Size, Short, Kind, Who, Room}
+pub use Rattle.terms.specs.declared.refusal.Refusal.the-variants.{Size, Short, Kind, Who, Room, Margin, Block}
 pub use Rattle.terms.specs.declared.sizes.SizeCheck.{SizeCheck}
 pub use Rattle.terms.specs.declared.sizes.SizeCheck.the-variants.{AllInRange, OutOfRange}
 pub use Rattle.terms.specs.declared.sizes.Sizes.{Sizes}

@@ -1,3 +1,6 @@
+ghost use mathlib.Core.Path.{_≡_};
+ghost use Rattle.terms.specs.Kinds.{partyNumber};
+
 // The seven kinds of entry that a schedule is made of. A call is begun by one entry, which leaves memory alone, and then
 // makes its steps, one to an entry.
 pub enum Entry {
@@ -15,4 +18,21 @@ pub enum Entry {
     BeginSteal(u32),
     // The call of the thief with this number makes its next step.
     ThiefStep(u32),
+}
+
+impl Entry {
+    // Whose entry it is: the worker is party 0, and thief i is party i + 1.
+    pub fn party(self) -> usize
+        ensures { λ r. ⌜ r ≡ partyNumber self ⌝ }
+    {
+        match self {
+            Entry::Drain => 0,
+            Entry::ClientStore => 0,
+            Entry::BeginPut(_) => 0,
+            Entry::BeginTake => 0,
+            Entry::WorkerStep => 0,
+            Entry::BeginSteal(thief) => thief as usize + 1,
+            Entry::ThiefStep(stepping) => stepping as usize + 1,
+        }
+    }
 }

@@ -3,7 +3,7 @@
 // No function here asks anything of its caller. Reading order:
 //
 // - `sizes`: the six sizes of a schedule, their ranges, and the margin;
-// - `entry`: the seven kinds of entry;
+// - `entry`: the seven kinds of entry, and whose entry each is;
 // - `outcome`: the outcome of an entry, with its number and value in a trace;
 // - `refusal`: why a file is refused, with number and place;
 // - `kinds`: what a kind byte and its operand mean: an entry, or a refusal;
@@ -24,5 +24,6 @@ pub use refusal::Refusal;
 pub use sizes::SizeCheck;
 pub use sizes::Sizes;
 pub use sizes::needed_margin;
+pub use sizes::within;
 pub use tally::Tally;
 pub use tally::count_outcome;

@@ -1,7 +1,7 @@
 ghost use mathlib.Core.Path.{_≡_};
 ghost use Rattle.terms.specs.Refusal.{numberOf, placeOf};
 
-// Why a file is not read, or not written: it breaks a rule, or the memory that was lent is too small.
+// Why a file is not read, or not written, or no sheet made of it: it breaks a rule, or the memory that was lent is too small.
 pub enum Refusal {
     // SIZE: the size at this place, counted from 0, is out of its range.
     Size(usize),
@@ -13,6 +13,10 @@ pub enum Refusal {
     Who(usize),
     // ROOM: the lent buffer has too few bytes.
     Room,
+    // MARGIN: the margin in use is under the needed one.
+    Margin,
+    // BLOCK: this entry begins a put whose task is no block of the design, or one that an earlier entry begins to put.
+    Block(usize),
 }
 
 impl Refusal {
@@ -26,6 +30,8 @@ impl Refusal {
             Refusal::Kind(_) => 3,
             Refusal::Who(_) => 4,
             Refusal::Room => 8,
+            Refusal::Margin => 9,
+            Refusal::Block(_) => 10,
         }
     }
 
@@ -39,6 +45,8 @@ impl Refusal {
             Refusal::Kind(entry) => entry,
             Refusal::Who(entry) => entry,
             Refusal::Room => 0,
+            Refusal::Margin => 3,
+            Refusal::Block(entry) => entry,
         }
     }
 }

@@ -37,7 +37,7 @@ pub fn needed_margin(buffer: u32, spacing: u32) -> u32
 }
 
 // Whether a number is neither below the least nor above the greatest.
-fn within(least: u32, greatest: u32, n: u32) -> bool
+pub fn within(least: u32, greatest: u32, n: u32) -> bool
     ensures { λ r. ⌜ r ≡ within least greatest n ⌝ }
 {
     if least <= n { n <= greatest } else { false }

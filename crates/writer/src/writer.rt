@@ -1,14 +1,16 @@
 ghost use mathlib.Core.Path.{_≡_};
-ghost use Prim.Native.Nat.{_+_, _*_, _≤_};
+ghost use Prim.Native.Nat.{_≤_};
 ghost use lib.ListN.{length};
-ghost use Rattle.schedule.specs.Format.{fileOf, sizeBytes, wordBytes};
+ghost use Rattle.schedule.specs.Format.{fileOf, sizeBytes};
 ghost use Rattle.number.specs.Number.{overwritten};
 ghost use Rattle.terms.specs.Refusal.{Refuses};
 ghost use Rattle.writer.specs.Faults.{refusalInWriting, writingHas};
 ghost use Rattle.writer.specs.Types.{Passed};
 ghost use Rattle.writer.specs.Writer.{bufferAfter, checkWriting, writeFile};
 use crate::entries::check_arrays;
+use number::put_bytes;
 use number::put_word;
+use number::put_words;
 use schedule::Check;
 use schedule::ENTRY_BYTES;
 use schedule::SIZES_BYTES;
@@ -59,31 +61,6 @@ fn put_sizes(buffer: &mut [u8], sizes: Sizes, entries: usize)
     put_word(buffer, 24, entries as u32);
 }
 
-// Puts the kinds from a place on.
-fn put_kinds(buffer: &mut [u8], at: usize, kinds: &[u8])
-    requires { ⌜ at + length (now kinds) ≤ length (now buffer) ⌝ }
-    ensures { λ _. ⌜ now (buffer .exit) ≡ overwritten at (now (kinds .entry)) (now (buffer .entry)) ⌝ }
-{
-    let mut i = 0;
-    while i < kinds.len() {
-        buffer[at + i] = kinds[i];
-        i += 1;
-    }
-}
-
-// Puts the operands from a place on, four bytes each.
-fn put_operands(buffer: &mut [u8], at: usize, operands: &[u32])
-    requires { ⌜ at + 4 * length (now operands) ≤ length (now buffer) ⌝ }
-    ensures { λ _. ⌜ now (buffer .exit) ≡ overwritten at (wordBytes (now (operands .entry))) (now (buffer .entry)) ⌝ }
-{
-    let mut i = 0;
-    while i < operands.len() {
-        let operand = operands[i];
-        put_word(buffer, at + 4 * i, operand);
-        i += 1;
-    }
-}
-
 // Puts a file that has passed every check.
 fn put_file(buffer: &mut [u8], sizes: Sizes, kinds: &[u8], operands: &[u32])
     requires { ⌜ checkWriting sizes (now kinds) (now operands) (length (now buffer)) ≡ Passed ⌝ }
@@ -91,8 +68,8 @@ fn put_file(buffer: &mut [u8], sizes: Sizes, kinds: &[u8], operands: &[u32])
 {
     let entries = kinds.len();
     put_sizes(buffer, sizes, entries);
-    put_kinds(buffer, SIZES_BYTES, kinds);
-    put_operands(buffer, SIZES_BYTES + entries, operands);
+    put_bytes(buffer, SIZES_BYTES, kinds);
+    put_words(buffer, SIZES_BYTES + entries, operands);
 }
 
 // Writes the file of six sizes and two parallel arrays, kinds and operands, into a buffer. Nothing is written before everything

@@ -19,14 +19,14 @@ use Rattle.schedule.specs.Faults.{fileHas, refusalInReading}
 use Rattle.schedule.proofs.Faults.{reader-refuses-faults}
 use Rattle.schedule.specs.Format.{allBelow, wordsIn}
 use Rattle.schedule.specs.Trace.{Line, lineIn, lineOf, traceOf}
-use Rattle.comparison.specs.Alike.{LikenessRefuses, answersFor, likeness, likenessOf, partyNumber, sameAnswers, sameLine, sameLines, sameSizes}
+use Rattle.terms.specs.Kinds.{partyNumber}
+use Rattle.comparison.specs.Alike.{LikenessRefuses, answersFor, likeness, likenessOf, sameAnswers, sameLine, sameLines, sameSizes}
 use Rattle.comparison.specs.Comparison.{answered, linesFrom, sameForAll, sameRuns}
 use Rattle.number.specs.Number.{overwritten}
 use Rattle.schedule.specs.Reader.{kindPart, operandPart, readFile}
 use Rattle.schedule.specs.Run.{entriesOf, outcomesFrom}
 use Rattle.machine.specs.Machine.{fresh}
-use Rattle.schedule.proofs.Laws.Run.{entry-there, length-entriesUpTo, length-outcomesFrom, length-outcomesOf, parts-obeyed}
-use Rattle.schedule.proofs.Laws.Trace.{lineIn-written}
+use Rattle.schedule.proofs.Laws.Run.{entry-there, length-entriesUpTo, length-outcomesOf, line-there, parts-obeyed}
 
 -- ── The comparison in bytes ─────────────────────────────────────────────────────────────────────────────────────────────────
 
@@ -43,14 +43,10 @@ module _ (party : ℕ) (s : Sizes) (kinds operands l : List ℕ) (fit : allBelow
   abbrev trace : List ℕ
   trace = overwritten 0 (traceOf os) l
 
-  -- the line of an entry, and whether it is an answer for the party
-  line-there : (at : ℕ) → at < length kinds → lineIn (length kinds) trace at ≡ lineOf (getD os at Moved)
-  line-there at there =
-      ap (λ n. lineIn n trace at) (sym (length-outcomesFrom s kinds operands)) ∙ lineIn-written os l at fit (omega (arith, length-outcomesFrom s kinds operands))
-
+  -- whether an entry gets an answer for the party
   answered-there : (at : ℕ) → at < length kinds
       → answered party s kinds operands trace at ≡ (isAnswer (getD os at Moved) && eqb (partyNumber (getD (entriesOf s kinds operands) at Drain)) party)
-  answered-there at there = λ i. isAnswerNumber (line-there at there i .number) && eqb (partyNumber (sym (entry-there s kinds operands at there) i)) party
+  answered-there at there = λ i. isAnswerNumber (line-there s kinds operands l fit at there i .number) && eqb (partyNumber (sym (entry-there s kinds operands at there) i)) party
 
   -- from a place on, where the entries and the outcomes from there on are known
   answers-from : (es : List Entry) (os′ : List Outcome) (at : ℕ) → length es ≡ length os′ → at + length es ≡ length kinds
@@ -61,7 +57,7 @@ module _ (party : ℕ) (s : Sizes) (kinds operands l : List ℕ) (fit : allBelow
   answers-from (e ∷ es) (o ∷ os′) at long end each =
       let there : at < length kinds = omega arith in
       let here = each 0 at (omega arith) in
-      let line = line-there at there ∙ ap lineOf (sym (here .1)) in
+      let line = line-there s kinds operands l fit at there ∙ ap lineOf (sym (here .1)) in
       let test = answered-there at there ∙ (λ i. isAnswer (sym (here .1) i) && eqb (partyNumber (sym (here .0) i)) party) in
       let rest = answers-from es os′ (suc at) (suc-inj long) (omega arith) (λ i k p. each (suc i) k (omega arith)) in
       (λ i. cond (test i) (line i ∷ []) [] ++ rest i) ∙ one-before (isAnswer o && eqb (partyNumber e) party) (lineOf o) (answersFor party es os′)

@@ -13,7 +13,8 @@ use Rattle.terms.proofs.Laws.Tests.{decide}
 use Rattle.terms.specs.Lists.{concatMap, rangeFrom}
 use Rattle.terms.specs.Outcome.{isAnswerNumber}
 use Rattle.comparison.specs.Types.{Entry, Sizes}
-use Rattle.comparison.specs.Alike.{partyNumber, sameLine, sameLines}
+use Rattle.terms.specs.Kinds.{partyNumber}
+use Rattle.comparison.specs.Alike.{sameLine, sameLines}
 use Rattle.comparison.specs.Comparison.{answered, firstFrom, linesFrom, sameFor}
 use Rattle.number.specs.Number.{wordAt}
 use Rattle.schedule.specs.Entries.{entryAt, entryToObey}

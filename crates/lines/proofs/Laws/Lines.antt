@@ -1,18 +1,17 @@
 -- Laws of a file's lines: those of its entries as a trace has them, and that the place of a refusal is a number of 32 bits.
 use mathlib.Core.Path.{_≡_, refl, ap, sym, _∙_, subst}
-use mathlib.Core.Bool.{Bool, true, false, not, false≢true, _&&_}
+use mathlib.Core.Bool.{Bool, true, false, cond, not, false≢true, _&&_}
 use mathlib.Core.List.{List, [], _∷_, _++_, map}
 use Prim.Native.Nat.{ℕ, zero, suc, _+_, _<_, suc-le-suc}
 use native.Mathlib.Nat.{add-zero, zero-add, zero-lt-suc}
 use native.Mathlib.Numerals.{add-one}
 use native.Mathlib.Omega.{arith}
-use lib.Dec.{ltb}
+use lib.Dec.{eqb, ltb}
 use lib.ListN.{length, getD}
-use borrow.Author.Tests.{ltb-true}
+use borrow.Author.Tests.{eqb-true, ltb-true}
 use Rattle.terms.specs.Outcome.{valueOf}
 use Rattle.terms.specs.Refusal.{Refuses, numberOf, placeOf}
 use Rattle.terms.specs.declared.outcome.Outcome.the-variants.{Moved}
-use Rattle.terms.specs.declared.refusal.Refusal.the-variants.{Size, Short, Kind, Who, Room}
 use Rattle.terms.proofs.Laws.Tests.{and-left}
 use Rattle.terms.specs.Lists.{concatMap, rangeFrom}
 use Rattle.terms.proofs.Laws.Lists.{all-getD}
@@ -64,17 +63,18 @@ entries-fit : (file : List ℕ) → allBelow 256 file ≡ true → entriesIn fil
 entries-fit file bytes = ltb-true (entriesIn file) 4294967296 (all-getD (λ n. ltb n 4294967296) (decode (layout 0) file) 6 0 refl (decode-below 7 4 file bytes))
 
 pub place-fits : (file : List ℕ) → allBelow 256 file ≡ true → (r : Refusal) → readFile file ≡ reading.Refused r → placeOf r < 4294967296
-place-fits file bytes r told = go r (subst (λ a. Refuses (fileHas file) (refusalInReading a)) told (reader-refuses-faults file))
+place-fits file bytes r told =
+    go (eqb (numberOf r) 1) (eqb (numberOf r) 2) (eqb (numberOf r) 8) _ _ _ (subst (λ a. Refuses (fileHas file) (refusalInReading a)) told (reader-refuses-faults file))
   where
     kinds : List ℕ
     kinds = kindsIn (entriesIn file) file
 
-    of-entry : (at : ℕ) (b : Bool) → (ltb at (length kinds) && b) ≡ true → at < 4294967296
-    of-entry at b p = omega (arith, ltb-true at (length kinds) (and-left (ltb at (length kinds)) b p), length-kindsIn (entriesIn file) file, entries-fit file bytes)
-
-    go : (r : Refusal) → fileHas file (numberOf r) (placeOf r) ≡ true → placeOf r < 4294967296
-    go (Size place) p = omega (arith, inside (sizesKept (sizesIn file) (entriesIn file)) place p)
-    go Short p = omega arith
-    go (Kind at) p = of-entry at _ p
-    go (Who at) p = of-entry at _ p
-    go Room p = omega arith
+    -- of a size, of the length, of the room that is not asked for, of an entry
+    go : (one two eight a b c : Bool)
+        → cond one (not (getD (sizesKept (sizesIn file) (entriesIn file)) (placeOf r) true)) (cond two (eqb (placeOf r) 0 && a) (cond eight (eqb (placeOf r) 0 && b) (ltb (placeOf r) (length kinds) && c))) ≡ true
+        → placeOf r < 4294967296
+    go true two eight a b c p = omega (arith, inside (sizesKept (sizesIn file) (entriesIn file)) (placeOf r) p)
+    go false true eight a b c p = omega (arith, eqb-true (placeOf r) 0 (and-left (eqb (placeOf r) 0) a p))
+    go false false true a b c p = omega (arith, eqb-true (placeOf r) 0 (and-left (eqb (placeOf r) 0) b p))
+    go false false false a b c p =
+        omega (arith, ltb-true (placeOf r) (length kinds) (and-left (ltb (placeOf r) (length kinds)) c p), length-kindsIn (entriesIn file) file, entries-fit file bytes)

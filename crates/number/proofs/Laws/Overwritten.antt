@@ -1,7 +1,7 @@
--- Laws of a list that is overwritten from a place on: with nothing, by one store and by four, one part right behind another, and two parts in either order.
+-- Laws of a list that is overwritten from a place on: with nothing, by one store and by four, one part right behind another, three parts so, and two parts in either order.
 use mathlib.Core.Path.{_≡_, ap, sym, _∙_}
 use mathlib.Core.List.{List, [], _∷_, _++_, append-assoc}
-use Prim.Native.Nat.{ℕ, _+_, _≤_, _<_}
+use Prim.Native.Nat.{ℕ, _+_, _≤_, _<_, zero-le}
 use native.Mathlib.Nat.{add-assoc}
 use native.Mathlib.Numerals.{add-one, add-three, add-two}
 use native.Mathlib.Omega.{arith}
@@ -36,6 +36,22 @@ module _ (at : ℕ) (new l : List ℕ) where
       let front-ends : length front ≡ end = simp (length-append, length-take-le at l inside) in
       rw (take-at front (drop end l) end front-ends, ← drop-drop (length more) end, drop-at front (drop end l) end front-ends)
       (simp (drop-drop, append-assoc, length-append, add-assoc))
+
+-- three parts, each put where the one before it ends, are one
+pub overwritten-three : (x y z l l₁ l₂ l₃ : List ℕ)
+    → l₁ ≡ overwritten 0 x l
+    → l₂ ≡ overwritten (length x) y l₁
+    → l₃ ≡ overwritten (length x + length y) z l₂
+    → l₃ ≡ overwritten 0 (x ++ y ++ z) l
+overwritten-three x y z l l₁ l₂ l₃ first second third =
+    let at-second : length x ≡ 0 + length x = omega arith in
+    let at-third : length x + length y ≡ 0 + length (x ++ y) = omega (arith, length-append x y) in
+    third
+    ∙ ap (overwritten (length x + length y) z) (second ∙ ap (overwritten (length x) y) first)
+    ∙ ap (λ at. overwritten (length x + length y) z (overwritten at y (overwritten 0 x l))) at-second
+    ∙ ap (overwritten (length x + length y) z) (overwritten-behind 0 x l y zero-le)
+    ∙ ap (λ at. overwritten at z (overwritten 0 (x ++ y) l)) at-third
+    ∙ overwritten-behind 0 (x ++ y) l z zero-le
 
 -- what is overwritten inside the front of a list leaves the rest
 overwritten-front : (at : ℕ) (new front rest : List ℕ) → at + length new ≤ length front

@@ -8,7 +8,7 @@ use lib.Dec.{eqb, ltb}
 use lib.ListN.{length, getD, List·getD-eq-default}
 use borrow.Author.Tests.{eq-eqb, eqb-true, le-ltb, lt-ltb, ltb-false, ltb-true, ne-eqb}
 use Rattle.terms.specs.declared.kinds.Meaning.the-variants.{Refused}
-use Rattle.terms.specs.Kinds.{allowedIf, entryOf, kindOf, operandOf}
+use Rattle.terms.specs.Kinds.{allowedIf, entryOf, kindOf, operandOf, partyNumber}
 use Rattle.terms.proofs.Laws.Tests.{cond-map}
 use Rattle.terms.specs.Lists.{range}
 use Rattle.terms.proofs.Laws.Lists.{all-each}
@@ -26,7 +26,7 @@ use Rattle.schedule.proofs.Laws.Format.{getD-words, length-wordsIn}
 -- ── What the check of an entry says ─────────────────────────────────────────────────────────────────────────────────────────
 
 -- an entry is not both allowed and refused
-not-allowed : {e : Entry} {r : Refusal} → Allowed e ≡ Refused r → ⊥
+pub not-allowed : {e : Entry} {r : Refusal} → Allowed e ≡ Refused r → ⊥
 not-allowed p = let clash : _≡_ {A = ℕ} 0 1 = cc in omega arith
 
 -- the check of an allowed or refused operand
@@ -80,6 +80,19 @@ module _ (thieves place : ℕ) where
   entry-as-read (suc (suc (suc (suc (suc zero))))) operand f p = thief-operand operand (BeginSteal operand) refl p
   entry-as-read (suc (suc (suc (suc (suc (suc zero)))))) operand f p = thief-operand operand (ThiefStep operand) refl p
   entry-as-read (suc (suc (suc (suc (suc (suc (suc kind))))))) operand f p = absurd (not-allowed (sym p))
+
+  -- .. and is the worker's, or a thief's that is there
+  pub allowed-party : (kind operand : ℕ) (f : Entry) → entryOf thieves place kind operand ≡ Allowed f → partyNumber f ≤ thieves
+  allowed-party zero operand f p = omega (arith, ap partyNumber (allowed-entry (eqb operand 0) place Drain p .1))
+  allowed-party (suc zero) operand f p = omega (arith, ap partyNumber (allowed-entry (eqb operand 0) place ClientStore p .1))
+  allowed-party (suc (suc zero)) operand f p = let same : f ≡ BeginPut operand = cc in omega (arith, ap partyNumber same)
+  allowed-party (suc (suc (suc zero))) operand f p = omega (arith, ap partyNumber (allowed-entry (eqb operand 0) place BeginTake p .1))
+  allowed-party (suc (suc (suc (suc zero)))) operand f p = omega (arith, ap partyNumber (allowed-entry (eqb operand 0) place WorkerStep p .1))
+  allowed-party (suc (suc (suc (suc (suc zero))))) operand f p =
+      let found = allowed-entry (ltb operand thieves) place (BeginSteal operand) p in omega (arith, ap partyNumber (found .1), ltb-true operand thieves (found .0))
+  allowed-party (suc (suc (suc (suc (suc (suc zero)))))) operand f p =
+      let found = allowed-entry (ltb operand thieves) place (ThiefStep operand) p in omega (arith, ap partyNumber (found .1), ltb-true operand thieves (found .0))
+  allowed-party (suc (suc (suc (suc (suc (suc (suc kind))))))) operand f p = absurd (not-allowed (sym p))
 
 module _ (s : Sizes) (kinds operands : List ℕ) where
   -- the entry at a place that both arrays have

@@ -12,8 +12,8 @@ use borrow.Author.Tests.{lt-ltb, ltb-true}
 use Rattle.terms.proofs.Laws.Tests.{and-left, and-right}
 use Rattle.terms.proofs.Laws.Sums.{sumOf, sumOf-append}
 use Rattle.schedule.specs.Types.{Sizes}
-use Rattle.number.specs.Number.{littleEndian, ofBytes}
-use Rattle.schedule.specs.Format.{FileLength, allBelow, decode, encode, fileOf, kindsIn, layout, operandsIn, sizeBytes, sizeNumbers, wordBytes, wordsIn}
+use Rattle.number.specs.Number.{littleEndian, ofBytes, wordBytes}
+use Rattle.schedule.specs.Format.{FileLength, allBelow, arrays, decode, encode, fileOf, kindsIn, layout, operandsIn, sizeBytes, sizeNumbers, wordsIn}
 use Rattle.number.proofs.Laws.Number.{length-littleEndian, ofBytes-littleEndian}
 use Rattle.schedule.proofs.Laws.Bytes.{allBelow-drop, allBelow-take, littleEndian-ofBytes, ofBytes-below}
 
@@ -132,10 +132,18 @@ decode-below zero w bs below = refl
 decode-below (suc n) w bs below =
     rw (lt-ltb (ofBytes (take w bs)) (256 ^ w) (ofBytes-below w bs below)) (decode-below n w (drop w bs) (allBelow-drop 256 w bs below))
 
--- numbers of four bytes each have four times as many bytes
-pub length-wordBytes : (l : List ℕ) → length (wordBytes l) ≡ 4 * length l
-length-wordBytes l =
-    length-encode (replicate (length l) 4) l (length-replicate (length l) 4) ∙ total-replicate (length l) 4 ∙ omega arith
+-- numbers of four bytes each stand one behind the other
+pub encode-words : (l : List ℕ) → encode (replicate (length l) 4) l ≡ wordBytes l
+encode-words [] = refl
+encode-words (n ∷ l) = ap (λ r. littleEndian 4 n ++ r) (encode-words l)
+
+-- two parallel arrays, of bytes and of numbers of four bytes
+pub encode-arrays : (bytes words : List ℕ) → allBelow 256 bytes ≡ true → length bytes ≡ length words
+    → encode (arrays (length bytes)) (bytes ++ words) ≡ bytes ++ wordBytes words
+encode-arrays bytes words below parallel =
+    let n = length bytes in
+    encode-append (replicate n 1) (replicate n 4) bytes words (length-replicate n 1)
+    ∙ rw (encode-bytes bytes below) (ap (λ k. bytes ++ encode (replicate k 4) words) parallel ∙ ap (λ l. bytes ++ l) (encode-words words))
 
 -- ── The parts of a schedule file ────────────────────────────────────────────────────────────────────────────────────────────
 
@@ -196,10 +204,8 @@ pub fileOf-parts : (s : Sizes) (kinds operands : List ℕ) → allBelow 256 kind
     → fileOf s kinds operands ≡ sizeBytes s (length kinds) ++ kinds ++ wordBytes operands
 fileOf-parts s kinds operands below parallel =
     let n = length kinds in
-    encode-append (replicate 7 4) (replicate n 1 ++ replicate n 4) (sizeNumbers s n) (kinds ++ operands) refl
-    ∙ ap (λ l. sizeBytes s n ++ l)
-    (encode-append (replicate n 1) (replicate n 4) kinds operands (length-replicate n 1)
-    ∙ rw (encode-bytes kinds below) (ap (λ k. kinds ++ encode (replicate k 4) operands) parallel))
+    encode-append (replicate 7 4) (arrays n) (sizeNumbers s n) (kinds ++ operands) refl
+    ∙ ap (λ l. sizeBytes s n ++ l) (encode-arrays kinds operands below parallel)
     ∙ sym (append-assoc (sizeBytes s n) kinds (wordBytes operands))
 
 -- .. as long as its layout

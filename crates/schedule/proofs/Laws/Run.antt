@@ -6,12 +6,13 @@ use Prim.Native.Nat.{ℕ, suc, _+_, _%_, _/_, _≤_, _<_}
 use native.Mathlib.Nat.{mod-eq-of-lt, mod-lt, zero-add}
 use native.Mathlib.Omega.{arith}
 use lib.Dec.{leb, lit<, ltb}
-use lib.ListN.{length, drop, getD, length-map, length-replicate, replicate}
-use borrow.Author.Tests.{le-leb, le-ltb, leb-false, leb-true, lt-ltb, ltb-true}
+use lib.ListN.{length, drop, getD, length-map, length-replicate, List·getD-eq-default, replicate}
+use borrow.Author.Tests.{le-leb, le-ltb, leb-false, leb-true, lt-ltb, ltb-false, ltb-true}
 use Rattle.terms.specs.Outcome.{valueOf}
 use Rattle.terms.specs.declared.outcome.Outcome.the-variants.{Moved, Place, Early, Wait, Stored, Task, Empty, Abort, Full, End}
 use Rattle.terms.specs.declared.kinds.Meaning.the-variants.{Refused}
-use Rattle.terms.specs.Kinds.{entryOf, operandOf}
+use Rattle.terms.specs.Kinds.{entryOf, operandOf, partyNumber}
+use Rattle.terms.specs.Sizes.{sizesInRange}
 use Rattle.terms.specs.Tally.{counted, noneCounted}
 use Rattle.terms.proofs.Laws.Tests.{and-left, and-right, by-test, either}
 use Rattle.terms.specs.Lists.{all, range}
@@ -31,11 +32,12 @@ use Rattle.schedule.specs.Reader.{kindPart, operandPart, readFile}
 use Rattle.number.specs.Number.{overwritten}
 use Rattle.schedule.specs.Run.{entriesOf, outcomesFrom, outcomesIn, runFile, runningOf, scheduleIn, tracePut}
 use Rattle.schedule.specs.Totals.{countedFrom, tallyOf}
-use Rattle.schedule.specs.Trace.{traceFits, traceLength, traceOf}
+use Rattle.schedule.specs.Trace.{lineIn, lineOf, traceFits, traceLength, traceOf}
 use Rattle.schedule.proofs.Laws.Bytes.{allBelow-drop}
-use Rattle.schedule.proofs.Laws.Check.{few-entries, getD-map-rangeFrom}
-use Rattle.schedule.proofs.Laws.Entries.{check-allowed, entries-passed, entry-as-read}
+use Rattle.schedule.proofs.Laws.Check.{few-entries, getD-map-rangeFrom, ranges-sizes}
+use Rattle.schedule.proofs.Laws.Entries.{allowed-party, check-allowed, entries-passed, entry-as-read, not-allowed}
 use Rattle.schedule.proofs.Laws.Format.{decode-below, length-kindsIn, operandsIn-words}
+use Rattle.schedule.proofs.Laws.Trace.{lineIn-written}
 use Rattle.schedule.proofs.Laws.Reader.{accepted-long, accepted-readable, kinds-cut, length-kinds-cut, operands-cut}
 
 -- ── One entry more ──────────────────────────────────────────────────────────────────────────────────────────────────────────
@@ -88,6 +90,26 @@ module _ (s : Sizes) (kinds operands : List ℕ) where
   -- where all entries passed, each is allowed
   pub all-allowed : checkEntries s kinds operands ≡ Passed → (at : ℕ) → at < length kinds → (e : Entry) × (entryAt s kinds operands at ≡ Allowed e)
   all-allowed passed at there = check-allowed (entryAt s kinds operands at) (entries-passed s kinds operands passed at there)
+
+  -- .. and no party is beyond the last thief; past the end there is the worker's
+  pub party-there : checkEntries s kinds operands ≡ Passed → (at : ℕ) → partyNumber (getD (entriesOf s kinds operands) at Drain) ≤ s .thieves
+  party-there passed at = go (ltb at (length kinds)) refl
+    where
+      met : (m : Meaning) (e : Entry) → entryOf (s .thieves) at (getD kinds at 0) (getD operands at 0) ≡ m → m ≡ Allowed e → partyNumber e ≤ s .thieves
+      met m e read is = allowed-party (s .thieves) at (getD kinds at 0) (getD operands at 0) e (read ∙ is)
+
+      allowed : (e : Entry) → entryAt s kinds operands at ≡ Allowed e → partyNumber e ≤ s .thieves
+      allowed e = either (λ m. m ≡ Allowed e → partyNumber e ≤ s .thieves) (ltb at (length kinds) && ltb at (length operands)) (met _ e refl) (λ is. absurd (not-allowed (sym is)))
+
+      go : (inside : Bool) → ltb at (length kinds) ≡ inside → partyNumber (getD (entriesOf s kinds operands) at Drain) ≤ s .thieves
+      go true p =
+          let there = ltb-true at (length kinds) p in
+          let found = all-allowed passed at there in
+          let same = entry-there at there ∙ ap entryToObey (found .1) in
+          omega (arith, ap partyNumber same, allowed (found .0) (found .1))
+      go false p =
+          let past = List·getD-eq-default (entriesOf s kinds operands) Drain {n = at} (omega (arith, ltb-false at (length kinds) p, length-entriesUpTo (length kinds))) in
+          omega (arith, ap partyNumber past)
 
 -- an accepted file has as many entries as it says, and as many outcomes
 
@@ -190,12 +212,22 @@ file-values-fit file bytes =
     outcomes-fit (sizesIn file) (kindsIn n file) (operandsIn n file)
     (ap (allBelow 4294967296) (operandsIn-words n file) ∙ decode-below n 4 (drop (28 + n) file) (allBelow-drop 256 (28 + n) file bytes))
 
+-- so the line of each entry, in the trace of two arrays that was written over a buffer, is that of its outcome
+pub line-there : (s : Sizes) (kinds operands l : List ℕ) → allBelow 4294967296 (map valueOf (outcomesFrom s kinds operands)) ≡ true → (at : ℕ) → at < length kinds
+    → lineIn (length kinds) (overwritten 0 (traceOf (outcomesFrom s kinds operands)) l) at ≡ lineOf (getD (outcomesFrom s kinds operands) at Moved)
+line-there s kinds operands l fit at there =
+    let os = outcomesFrom s kinds operands in
+    ap (λ n. lineIn n (overwritten 0 (traceOf os) l) at) (sym (length-outcomesFrom s kinds operands))
+    ∙ lineIn-written os l at fit (omega (arith, length-outcomesFrom s kinds operands))
+
 -- ── The parts of an accepted file ───────────────────────────────────────────────────────────────────────────────────────────
 
 -- what the sizes and the two parts of an accepted file are, for whoever obeys them
 pub record PartsOf (file : List ℕ) (s : Sizes) (kinds operands : List ℕ) (n : ℕ) : Type 0 where
+  pub ranged : sizesInRange s ≡ true
   pub few : n ≤ 4096
   pub many : length kinds ≡ n
+  pub allowed : checkEntries s kinds (wordsIn operands) ≡ Passed
   pub entries : entriesOf s kinds (wordsIn operands) ≡ scheduleIn file
   pub outcomes : outcomesFrom s kinds (wordsIn operands) ≡ outcomesIn file
 
@@ -209,8 +241,10 @@ parts-obeyed file s n accepted =
     let operands = operands-cut file s n whole in
     let entries = (λ i. entriesOf s (kinds i) (operands i)) ∙ (λ i. entriesOf (same i) (kindsIn (count i) file) (operandsIn (count i) file)) in
     record {
+      ranged = ap sizesInRange same ∙ ranges-sizes (sizesIn file) (entriesIn file) (read .1 .1 .ranges);
       few = omega (arith, few-entries (sizesIn file) (entriesIn file) (read .1 .1 .ranges), count);
       many = length-kinds-cut file s n whole;
+      allowed = (λ i. checkEntries s (kinds i) (operands i)) ∙ (λ i. checkEntries (same i) (kindsIn (count i) file) (operandsIn (count i) file)) ∙ read .1 .1 .each;
       entries = entries;
       outcomes = (λ i. outcomesOf (fresh s) (entries i)) ∙ ap (λ t. outcomesOf (fresh t) (scheduleIn file)) same;
     }

@@ -12,16 +12,15 @@ use Rattle.terms.specs.declared.outcome.Outcome.the-variants.{Moved, Place, Ear
 use Rattle.terms.specs.Lists.{concatMap}
 use Rattle.terms.proofs.Laws.Lists.{concatMap-places}
 use Rattle.schedule.specs.Types.{Outcome}
-use Rattle.number.specs.Number.{littleEndian, ofBytes, overwritten, wordAt}
-use Rattle.schedule.specs.Format.{allBelow, decode, encode, wordBytes}
+use Rattle.number.specs.Number.{littleEndian, ofBytes, overwritten, wordAt, wordBytes}
+use Rattle.schedule.specs.Format.{allBelow, arrays, decode, encode}
 use Rattle.schedule.specs.Trace.{TraceLength, lineIn, lineOf, traceLayout, traceOf}
 use Rattle.schedule.specs.Demand3.{answerIn, answersIn}
 use Rattle.number.proofs.Laws.Number.{length-littleEndian}
-use Rattle.schedule.proofs.Laws.Format.{decode-append, decode-encode, encode-append, encode-bytes, fitting, fitting-append, fitting-replicate}
-use Rattle.schedule.proofs.Laws.Format.{getD-bytes, getD-words, length-decode, length-wordBytes, total, total-replicate}
-use Rattle.number.proofs.Laws.Words.{word-there}
+use Rattle.schedule.proofs.Laws.Format.{decode-append, decode-encode, encode-arrays, fitting, fitting-append, fitting-replicate}
+use Rattle.schedule.proofs.Laws.Format.{getD-bytes, getD-words, length-decode, total, total-replicate}
+use Rattle.number.proofs.Laws.Words.{length-wordBytes, word-there, wordBytes-append}
 use Rattle.number.proofs.Laws.Overwritten.{length-overwritten, overwritten-apart, overwritten-behind, overwritten-nothing}
-use Rattle.schedule.proofs.Laws.Words.{wordBytes-append}
 
 -- ── A trace that is written ─────────────────────────────────────────────────────────────────────────────────────────────────
 
@@ -89,12 +88,9 @@ module _ (os : List Outcome) where
       let n = length os in
       let numbers = map numberOf os in
       let values = map valueOf os in
-      let of-numbers : n ≡ length numbers = sym (length-map os numberOf) in
-      let of-values : n ≡ length values = sym (length-map os valueOf) in
+      let many : n ≡ length numbers = sym (length-map os numberOf) in
       ap (λ l. littleEndian 4 n ++ l)
-      (encode-append (replicate n 1) (replicate n 4) numbers values (length-replicate n 1 ∙ of-numbers)
-      ∙ (λ i. encode (replicate (of-numbers i) 1) numbers ++ encode (replicate (of-values i) 4) values)
-      ∙ ap (λ l. l ++ wordBytes values) (encode-bytes numbers (numbers-are-bytes os)))
+      (ap (λ k. encode (arrays k) (numbers ++ values)) many ∙ encode-arrays numbers values (numbers-are-bytes os) (length-map os numberOf ∙ sym (length-map os valueOf)))
       ∙ sym (append-assoc (littleEndian 4 n) numbers (wordBytes values))
 
 pub length-traceOf : TraceLength

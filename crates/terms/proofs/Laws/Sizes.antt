@@ -69,7 +69,8 @@ sizes-refused s = go (checkSizes s) refl
         let same : at ≡ told .0 = omega (arith, told .1 .0) in
         rw (same, told .1 .1)
 
-within-bounds : (least greatest n : ℕ) → within least greatest n ≡ true → (least ≤ n) × (n ≤ greatest)
+-- a number within a range is neither below the least nor above the greatest
+pub within-bounds : (least greatest n : ℕ) → within least greatest n ≡ true → (least ≤ n) × (n ≤ greatest)
 within-bounds least greatest n h = (leb-true least n (and-left (leb least n) (leb n greatest) h), leb-true n greatest (and-right (leb least n) (leb n greatest) h))
 
 pub sizes-bounds : (s : Sizes) → sizesInRange s ≡ true → SizeBounds s

@@ -95,7 +95,7 @@ module _ {B : Type 0} {φ : List B → ℕ} (adds : Adds φ) where
 
 -- ── Numbers from 0 up ───────────────────────────────────────────────────────────────────────────────────────────────────────
 
-length-rangeFrom : (k n : ℕ) → length (rangeFrom k n) ≡ n
+pub length-rangeFrom : (k n : ℕ) → length (rangeFrom k n) ≡ n
 length-rangeFrom k zero = refl
 length-rangeFrom k (suc n) = ap suc (length-rangeFrom (suc k) n)
 

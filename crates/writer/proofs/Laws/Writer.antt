@@ -2,21 +2,22 @@
 use mathlib.Core.Path.{_≡_, refl, ap, sym, _∙_}
 use mathlib.Core.Bool.{not, true}
 use mathlib.Core.List.{List, [], _∷_, _++_}
-use Prim.Native.Nat.{ℕ, _+_, _*_, _≤_, _<_, zero-le}
+use Prim.Native.Nat.{ℕ, _+_, _*_, _≤_, _<_}
 use native.Mathlib.Omega.{arith}
 use lib.Dec.{eqb, ltb}
-use lib.ListN.{length, drop, getD, length-append}
+use lib.ListN.{length, drop, getD}
 use borrow.Author.Tests.{eq-eqb, eqb-true, le-ltb, lt-ltb, ltb-false, ne-eqb, not-false}
 use Rattle.writer.specs.Types.{Check, Failed, Passed, Refusal, Room, Short, Sizes, Written}
 use Rattle.writer.specs.declared.writer.Writing.the-variants.{Refused}
-use Rattle.number.specs.Number.{overwritten}
+use Rattle.number.specs.Number.{bytesPut, overwritten, wordBytes}
 use Rattle.schedule.specs.Check.{checkRanges, failIf, first}
-use Rattle.schedule.specs.Format.{allBelow, fileOf, sizeBytes, wordBytes}
+use Rattle.schedule.specs.Format.{allBelow, fileOf, sizeBytes}
 use Rattle.schedule.specs.Entries.{checkEntries}
 use Rattle.writer.specs.Writer.{writingOf, checkWriting, writeFile, writingChecks}
 use Rattle.schedule.proofs.Laws.Check.{failIf-passed, first-failed, first-passed}
 use Rattle.schedule.proofs.Laws.Format.{fileOf-parts, length-sizeBytes}
-use Rattle.number.proofs.Laws.Overwritten.{overwritten-behind}
+use Rattle.number.proofs.Laws.Overwritten.{length-overwritten, overwritten-three}
+use Rattle.number.proofs.Laws.Words.{bytes-there, length-wordBytes}
 
 -- which check decides, where one fails
 module _ (s : Sizes) (kinds operands : List ℕ) (room : ℕ) where
@@ -95,20 +96,21 @@ pub passed-writable : (s : Sizes) (kinds operands : List ℕ) (room : ℕ) → c
 passed-writable s kinds operands room passed =
     written-writable s kinds operands room (28 + 5 * length kinds) (ap (writingOf (28 + 5 * length kinds)) passed) .1
 
--- the sizes, the kinds and the operands, each written where the part before it ends
+-- the sizes, the kinds and the operands, each written where the part before it ends, in a buffer that has room for them
 pub file-written : (s : Sizes) (kinds operands : List ℕ) → allBelow 256 kinds ≡ true → length kinds ≡ length operands → (b b₁ b₂ b₃ : List ℕ)
+    → 28 + 5 * length kinds ≤ length b
     → b₁ ≡ overwritten 0 (sizeBytes s (length kinds)) b
-    → b₂ ≡ overwritten 28 kinds b₁
-    → b₃ ≡ overwritten (28 + length kinds) (wordBytes operands) b₂
+    → b₂ ≡ bytesPut 28 kinds b₁
+    → b₃ ≡ bytesPut (28 + length kinds) (wordBytes operands) b₂
     → b₃ ≡ overwritten 0 (fileOf s kinds operands) b
-file-written s kinds operands bytes parallel b b₁ b₂ b₃ sizes-put kinds-put operands-put =
+file-written s kinds operands bytes parallel b b₁ b₂ b₃ room sizes-put kinds-put operands-put =
     let sizes = sizeBytes s (length kinds) in
-    let at-kinds : 28 ≡ 0 + length sizes = omega (arith, length-sizeBytes s (length kinds)) in
-    let at-operands : 28 + length kinds ≡ 0 + length (sizes ++ kinds) = omega (arith, length-append sizes kinds, length-sizeBytes s (length kinds)) in
-    operands-put
-    ∙ ap (overwritten (28 + length kinds) (wordBytes operands)) (kinds-put ∙ ap (overwritten 28 kinds) sizes-put)
-    ∙ ap (λ at. overwritten (28 + length kinds) (wordBytes operands) (overwritten at kinds (overwritten 0 sizes b))) at-kinds
-    ∙ ap (overwritten (28 + length kinds) (wordBytes operands)) (overwritten-behind 0 sizes b kinds zero-le)
-    ∙ ap (λ at. overwritten at (wordBytes operands) (overwritten 0 (sizes ++ kinds) b)) at-operands
-    ∙ overwritten-behind 0 (sizes ++ kinds) b (wordBytes operands) zero-le
+    let at-kinds : 28 ≡ length sizes = sym (length-sizeBytes s (length kinds)) in
+    let words = length-wordBytes operands in
+    let long₁ : length b₁ ≡ length b = ap length sizes-put ∙ length-overwritten 0 sizes b (omega arith) in
+    let put₂ = kinds-put ∙ bytes-there 28 kinds b₁ (omega arith) in
+    let long₂ : length b₂ ≡ length b = ap length put₂ ∙ length-overwritten 28 kinds b₁ (omega arith) ∙ long₁ in
+    let put₃ = operands-put ∙ bytes-there (28 + length kinds) (wordBytes operands) b₂ (omega (arith, words, parallel)) in
+    overwritten-three sizes kinds (wordBytes operands) b b₁ b₂ b₃ sizes-put (put₂ ∙ ap (λ at. overwritten at kinds b₁) at-kinds)
+    (put₃ ∙ ap (λ at. overwritten (at + length kinds) (wordBytes operands) b₂) at-kinds)
     ∙ ap (λ file. overwritten 0 file b) (sym (fileOf-parts s kinds operands bytes parallel))

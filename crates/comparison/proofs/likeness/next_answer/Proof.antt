@@ -7,7 +7,7 @@ use borrow.Author.Needs.{needs}
 use lib.ListN.{length}
 use Rattle.schedule.specs.Format.{wordsIn}
 use Rattle.terms.proofs.Laws.Tests.{known}
-use Rattle.comparison.specs.Alike.{partyNumber}
+use Rattle.terms.specs.Kinds.{partyNumber}
 use Rattle.comparison.specs.Comparison.{answered, firstFrom}
 use Rattle.comparison.proofs.Laws.Comparison.{answered-another, answered-for, answered-none, first-end, first-further, first-here}
 use Rattle.comparison.proofs.likeness.next_answer.Statement.{statement}
@@ -32,7 +32,7 @@ returns c =
     let test = answered (a .party) (a .sizes) (a .kinds .now) (wordsIn (a .operands .now)) (a .trace .now) in
     let at = turn .before .loop .at in
     let here = answered-for (a .party) (a .sizes) (a .kinds .now) (wordsIn (a .operands .now)) (a .trace .now) at (turn .loop-test .taken)
-    _ (asked .party-of .ensures ∙ ap partyNumber (asked .before .entry-at .ensures)) (known (tested .before .is-answer .ensures) (tested .if1 .taken)) (c .if2 .taken) in
+    _ (asked .party .ensures ∙ ap partyNumber (asked .before .entry-at .ensures)) (known (tested .before .is-answer .ensures) (tested .if1 .taken)) (c .if2 .taken) in
     sym (turn .before .loop .inv .0 ∙ first-here test (length (a .kinds .now)) at (turn .loop-test .taken) here)
 
 loop-again : tie.Need-loop-again Inv-loop μ-loop

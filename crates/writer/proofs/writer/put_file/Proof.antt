@@ -17,15 +17,10 @@ put-sizes-requires c κs =
     let start = c .before .before .before .before in
     (omega (arith, right start .fits), few-entries (start .args .sizes) (length (start .args .kinds .now)) (right start .ranges))
 
-put-kinds-requires : tie.Need-put-kinds-requires
-put-kinds-requires c κs =
-    let start = c .before .before .before .before .before .before .before .before in
-    omega (arith, right start .fits)
-
-put-operands-requires : tie.Need-put-operands-requires
-put-operands-requires c κs =
+add-put-words : tie.Need-add-put-words
+add-put-words c =
     let start = c .before .before .before .before .before .before .before .before .before .before .before .before in
-    omega (arith, right start .fits, right start .parallel)
+    omega (arith, right start .fits)
 
 returns : tie.Need-returns
 returns c =
@@ -36,15 +31,15 @@ returns c =
     let a = start .args in
     let bytes = entries-bytes (a .sizes) (a .kinds .now) (a .operands .now) (right start .each) in
     file-written (a .sizes) (a .kinds .now) (a .operands .now) bytes (right start .parallel) (a .buffer .now) _ _ _
-    (sizes-put .put-sizes .ensures) (kinds-put .put-kinds .ensures) (operands-put .put-operands .ensures)
+    (right start .fits) (sizes-put .put-sizes .ensures) (kinds-put .put-bytes .ensures) (operands-put .put-words .ensures)
 
 pub put-file-spec : {M : Type 1} → statement M
 put-file-spec =
     tie.close
     (tie.spec
     put-sizes-requires
-    put-kinds-requires
-    (λ c. search needs)
-    put-operands-requires
+    (λ c κs. search needs)
+    add-put-words
+    (λ c κs. search needs)
     (λ c. search needs)
     returns)

@@ -3,7 +3,7 @@ use native.Mathlib.Omega.{arith}
 use borrow.Author.Needs.{needs}
 use Rattle.schedule.specs.Format.{sizeNumbers}
 use Rattle.number.proofs.Laws.Overwritten.{overwritten-nothing}
-use Rattle.writer.proofs.Laws.Words.{words-more}
+use Rattle.number.proofs.Laws.Words.{words-more}
 use Rattle.writer.proofs.writer.put_sizes.Statement.{statement}
 use Rattle.writer.proofs.writer.put_sizes.Tie as tie
 
