@@ -7,11 +7,12 @@ use lib.ListN.{length}
 use Rattle.terms.specs.Refusal.{numberOf, placeOf}
 use Rattle.schedule.specs.declared.reader.Reading.the-variants as reading
 use Rattle.schedule.specs.declared.runner.Running.the-variants as running
+use Rattle.share_sheet.specs.declared.sheet.Sheet.the-variants as sheet
 use Rattle.writer.specs.declared.writer.Writing.the-variants as writing
 use Rattle.schedule.specs.Reader.{readFile, refusalOf}
 use Rattle.schedule.specs.Run.{runFile, traceAfter}
 use Rattle.number.specs.Number.{wordPut}
-use Rattle.exports.specs.Types.{Accepted, Alike, FirstRefused, Likeness, NotAlike, Ran, Reading, Refusal, Room, Running, SecondRefused, Sizes, Tally, Writing, Written}
+use Rattle.exports.specs.Types.{Accepted, Alike, FirstRefused, Likeness, NotAlike, Ran, Reading, Refusal, Room, Running, SecondRefused, Sheet, Sizes, Tally, Writing, Written}
 
 -- a refusal as one number of 64 bits: its number in the upper half, and in the lower the 32 lowest bits of its place. Places are below 4,096, so that is the place.
 abbrev pub refusalAnswer : Refusal → ℕ
@@ -79,3 +80,10 @@ likenessAnswer (SecondRefused r) = refusalAnswer r
 abbrev pub writingAnswer : Writing → ℕ
 writingAnswer (Written n) = n
 writingAnswer (writing.Refused r) = refusalAnswer r
+
+-- ── Share sheets ────────────────────────────────────────────────────────────────────────────────────────────────────────────
+
+-- how many bytes the sheet has, or the refusal
+abbrev pub sheetNumber : Sheet → ℕ
+sheetNumber (sheet.Written n) = n
+sheetNumber (sheet.Refused r) = refusalAnswer r

@@ -7,15 +7,17 @@ use lib.Dec.{eqb}
 use lib.ListN.{length, take}
 use Rattle.terms.specs.Lists.{equal}
 use Rattle.terms.specs.Sizes.{sized}
-use Rattle.terms.specs.declared.refusal.Refusal.the-variants.{Size, Short, Kind, Who}
+use Rattle.terms.specs.declared.refusal.Refusal.the-variants.{Size, Short, Kind, Who, Margin, Block}
 use Rattle.schedule.specs.Edges.{different, differentFile, example, exampleFile, exampleOperands}
 use Rattle.schedule.specs.Format.{sizeBytes}
 use Rattle.schedule.specs.Reader.{readFile}
 use Rattle.schedule.specs.Runs.{before, exampleTrace, file, twoTakesAndASteal}
 use Rattle.comparison.specs.Alike.{likeness}
+use Rattle.share_sheet.specs.Sheet.{sheetAfter, sheetAnswer}
+use Rattle.share_sheet.specs.Sheets.{design, designSheet, enough}
 use Rattle.writer.specs.Writer.{writeFile}
 use Rattle.exports.specs.Types.{Refusal, Room, Sizes}
-use Rattle.exports.specs.Answer.{likenessAnswer, readingAnswer, refusalAnswer, runInto, runningAnswer, sizesAfter, totalsAfter, traceInto, writingAnswer}
+use Rattle.exports.specs.Answer.{likenessAnswer, readingAnswer, refusalAnswer, runInto, runningAnswer, sheetNumber, sizesAfter, totalsAfter, traceInto, writingAnswer}
 
 pub data Row : Type 0 where
   -- a refusal, and the number that is answered
@@ -28,6 +30,8 @@ pub data Row : Type 0 where
   compares : (first second : List ℕ) (answer : ℕ) → Row
   -- sizes, arrays and room, and what is answered
   writes : Sizes → (kinds operands : List ℕ) (room answer : ℕ) → Row
+  -- a file, a count of blocks and a buffer, what is answered, and what the buffer holds afterwards
+  shares : (file : List ℕ) (count : ℕ) (buffer : List ℕ) (answer : ℕ) (after : List ℕ) → Row
 
 abbrev pub holds : Row → Bool
 holds (answers r answer) = eqb (refusalAnswer r) answer
@@ -38,6 +42,7 @@ holds (runs file trace totals answer begins after) =
     && equal (totalsAfter (runInto file (length trace) totals) totals) after
 holds (compares first second answer) = eqb (likenessAnswer (likeness first second)) answer
 holds (writes s kinds operands room answer) = eqb (writingAnswer (writeFile s kinds operands room)) answer
+holds (shares file count buffer answer after) = eqb (sheetNumber (sheetAnswer file count (length buffer))) answer && equal (sheetAfter file count buffer) after
 
 abbrev pub table : List Row
 table =
@@ -47,6 +52,8 @@ table =
     ∷ answers (Kind 1) 12884901889
     ∷ answers (Who 4095) 17179873279
     ∷ answers Room 34359738368
+    ∷ answers Margin 38654705667
+    ∷ answers (Block 4095) 42949677055
     -- six sizes in 24 bytes, and nothing in fewer; a fault of the file comes first
     ∷ reads exampleFile (before 26) 6 (take 24 exampleFile ++ before 2)
     ∷ reads differentFile (before 24) 0 (take 24 differentFile)
@@ -71,4 +78,9 @@ table =
     ∷ writes example (2 ∷ 4 ∷ 4 ∷ 4 ∷ 0 ∷ 4 ∷ []) exampleOperands 58 58
     ∷ writes different [] [] 27 34359738368
     ∷ writes example (0 ∷ 7 ∷ []) (0 ∷ 0 ∷ []) 38 12884901889
+    -- how long the sheet is, or the refusal
+    ∷ shares (file enough design) 5 (before 27) 26 (designSheet ++ before 1)
+    ∷ shares (file enough design) 5 (before 25) 34359738368 (before 25)
+    ∷ shares (file enough design) 256 (before 26) 4294967303 (before 26)
+    ∷ shares [] 0 [] 8589934592 []
     ∷ []

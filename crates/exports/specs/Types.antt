@@ -11,3 +11,4 @@ pub use Rattle.comparison.specs.declared.likeness.Likeness.{Likeness}
 pub use Rattle.comparison.specs.declared.likeness.Likeness.the-variants.{Alike, NotAlike, FirstRefused, SecondRefused}
 pub use Rattle.writer.specs.declared.writer.Writing.{Writing}
 pub use Rattle.writer.specs.declared.writer.Writing.the-variants.{Written}
+pub use Rattle.share_sheet.specs.declared.sheet.Sheet.{Sheet}

@@ -20,6 +20,7 @@
 //     uint64_t rehearsal_write(uint32_t slots, uint32_t buffer, uint32_t spacing, uint32_t margin, uint32_t thieves, uint32_t start,
 //                              const uint8_t *kinds, size_t kind_count, const uint32_t *operands, size_t operand_count,
 //                              uint8_t *file, size_t room);
+//     uint64_t rehearsal_share_sheet(const uint8_t *file, size_t bytes, uint32_t count, uint8_t *sheet, size_t room);
 //     uint32_t rehearsal_needed_margin(uint32_t buffer, uint32_t spacing);
 //
 // - `answer`: a refusal as one number, and numbers put into lent memory;
@@ -31,4 +32,5 @@ pub use interface::rehearsal_alike;
 pub use interface::rehearsal_needed_margin;
 pub use interface::rehearsal_read;
 pub use interface::rehearsal_run;
+pub use interface::rehearsal_share_sheet;
 pub use interface::rehearsal_write;

@@ -1,0 +1,4 @@
+pub mod Blocks
+pub mod Given
+pub mod Shares
+pub mod Sheet

@@ -1,0 +1,176 @@
+-- Laws of sheets: which check decides, what has passed all of them, and that three parts written one behind the other are the sheet.
+use mathlib.Core.Path.{_≡_, refl, ap, sym, _∙_}
+use mathlib.Core.Bool.{true, false, not}
+use mathlib.Core.List.{List, [], _∷_, _++_, map}
+use Prim.Native.Nat.{ℕ, zero, suc, _+_, _%_, _≤_, _<_}
+use native.Mathlib.Nat.{le-of-suc-le-suc, not-suc-le-zero}
+use native.Mathlib.Omega.{arith}
+use lib.Dec.{ltb}
+use lib.ListN.{length, drop, length-map, set, take}
+use borrow.Author.Tests.{le-ltb, lt-ltb, ltb-false, not-false}
+use Rattle.terms.specs.Lists.{rangeFrom}
+use Rattle.terms.specs.Sizes.{enoughMargin, within}
+use Rattle.terms.proofs.Laws.Lists.{map-take}
+use Rattle.terms.proofs.Laws.Sums.{length-rangeFrom}
+use Rattle.number.specs.Number.{bytesPut, overwritten, wordBytes}
+use Rattle.number.proofs.Laws.Overwritten.{length-overwritten, overwritten-one, overwritten-three}
+use Rattle.number.proofs.Laws.Words.{bytes-there, length-wordBytes}
+use Rattle.schedule.specs.Check.{failIf, first}
+use Rattle.schedule.specs.Format.{allBelow, arrays, encode, entriesIn, sizesIn}
+use Rattle.schedule.specs.Reader.{readFile, readingChecks, readingOf}
+use Rattle.schedule.specs.Run.{scheduleIn}
+use Rattle.schedule.specs.declared.reader.Reading.the-variants as reading
+use Rattle.schedule.proofs.Laws.Check.{failIf-passed, first-append, first-append-failed, first-passed}
+use Rattle.schedule.proofs.Laws.Format.{encode-arrays}
+use Rattle.schedule.proofs.Laws.Reader.{Readable, accepted-readable, readable-accepted}
+use Rattle.share_sheet.specs.Types.{Accepted, Check, Entry, Failed, Margin, Outcome, Passed, Reading, Refusal, Room, Size, Sizes, Written}
+use Rattle.share_sheet.specs.declared.sheet.Sheet.the-variants as sheet
+use Rattle.share_sheet.specs.Notes.{PartiesFit}
+use Rattle.share_sheet.specs.Sheet.{blocks, checkBlocks, checksBehind, givingUpTo, shareBy, shareOf, sheetAnswer, sheetBy, sheetLength, sheetOf}
+
+-- ── Checks ──────────────────────────────────────────────────────────────────────────────────────────────────────────────────
+
+-- which check decides, where one fails
+module _ (s : Sizes) (es : List Entry) (count room : ℕ) where
+  pub count-decides : within 1 255 count ≡ false → first (checksBehind s es count room) ≡ Failed (Size 7)
+  count-decides out = λ i. first (failIf (not (out i)) (Size 7) ∷ drop 1 (checksBehind s es count room))
+
+  module _ (inside : within 1 255 count ≡ true) where
+    pub margin-decides : enoughMargin s ≡ false → first (checksBehind s es count room) ≡ Failed Margin
+    margin-decides few = λ i. first (failIf (not (inside i)) (Size 7) ∷ failIf (not (few i)) Margin ∷ drop 2 (checksBehind s es count room))
+
+    module _ (enough : enoughMargin s ≡ true) where
+      pub block-decides : (r : Refusal) → checkBlocks count es ≡ Failed r → first (checksBehind s es count room) ≡ Failed r
+      block-decides r wrong = λ i. first (failIf (not (inside i)) (Size 7) ∷ failIf (not (enough i)) Margin ∷ wrong i ∷ drop 3 (checksBehind s es count room))
+
+      module _ (right : checkBlocks count es ≡ Passed) where
+        pub room-decides : room < sheetLength count → first (checksBehind s es count room) ≡ Failed Room
+        room-decides under =
+            let small = lt-ltb room (sheetLength count) under in
+            λ i. first (failIf (not (inside i)) (Size 7) ∷ failIf (not (enough i)) Margin ∷ right i ∷ failIf (small i) Room ∷ [])
+
+        pub none-fails : sheetLength count ≤ room → first (checksBehind s es count room) ≡ Passed
+        none-fails fits =
+            let large = le-ltb room (sheetLength count) fits in
+            λ i. first (failIf (not (inside i)) (Size 7) ∷ failIf (not (enough i)) Margin ∷ right i ∷ failIf (large i) Room ∷ [])
+
+-- what a schedule, a count and a room are that have passed every check
+pub record Fit (s : Sizes) (es : List Entry) (count room : ℕ) : Type 0 where
+  pub inside : within 1 255 count ≡ true
+  pub enough : enoughMargin s ≡ true
+  pub right : checkBlocks count es ≡ Passed
+  pub fits : sheetLength count ≤ room
+
+pub passed-fit : (s : Sizes) (es : List Entry) (count room : ℕ) → first (checksBehind s es count room) ≡ Passed → Fit s es count room
+passed-fit s es count room passed =
+    let each = first-passed (checksBehind s es count room) passed in
+    record {
+      inside = not-false (within 1 255 count) (failIf-passed _ (Size 7) (each 0));
+      enough = not-false (enoughMargin s) (failIf-passed _ Margin (each 1));
+      right = each 2;
+      fits = ltb-false room (sheetLength count) (failIf-passed _ Room (each 3));
+    }
+
+-- ── Bytes ───────────────────────────────────────────────────────────────────────────────────────────────────────────────────
+
+-- the first so many of a range
+take-range : (k count n : ℕ) → count ≤ n → take count (rangeFrom k n) ≡ rangeFrom k count
+take-range k zero n few = refl
+take-range k (suc count) zero few = absurd (not-suc-le-zero few)
+take-range k (suc count) (suc n) few = ap (λ l. k ∷ l) (take-range (suc k) count n (le-of-suc-le-suc few))
+
+-- something of each block, of the first so many
+pub take-blocks : (f : ℕ → ℕ) (count n : ℕ) → count ≤ n → take count (map f (blocks n)) ≡ map f (blocks count)
+take-blocks f count n few = map-take f count (blocks n) ∙ ap (map f) (take-range 1 count n few)
+
+pub length-blocks : (f : ℕ → ℕ) (count : ℕ) → length (map f (blocks count)) ≡ count
+length-blocks f count = length-map (blocks count) f ∙ length-rangeFrom 1 count
+
+-- .. which is below a bound where it is so of every block
+pub blocks-below : (f : ℕ → ℕ) (bound : ℕ) → ((b : ℕ) → f b < bound) → (l : List ℕ) → allBelow bound (map f l) ≡ true
+blocks-below f bound below [] = refl
+blocks-below f bound below (b ∷ l) = rw (lt-ltb (f b) bound (below b)) (blocks-below f bound below l)
+
+module _ (count : ℕ) (es : List Entry) (os : List Outcome) where
+  abbrev pub parties : List ℕ
+  parties = map (λ b. shareOf es os b .party) (blocks count)
+
+  abbrev pub entries : List ℕ
+  entries = map (λ b. shareOf es os b .entry) (blocks count)
+
+  module _ (few : count ≤ 255) (fit : PartiesFit es) where
+    -- a party is a byte
+    party-fits : (l : List ℕ) → shareBy es l .party < 256
+    party-fits [] = omega arith
+    party-fits (at ∷ l) = fit at
+
+    pub parties-fit : allBelow 256 parties ≡ true
+    parties-fit = blocks-below (λ b. shareOf es os b .party) 256 (λ b. party-fits (givingUpTo (length os) b os)) (blocks count)
+
+    -- the count, the parties, the entries
+    pub sheetOf-parts : sheetOf count es os ≡ (count ∷ []) ++ parties ++ wordBytes entries
+    sheetOf-parts =
+        let byte : count % 256 ≡ count = omega arith in
+        let many = length-blocks (λ b. shareOf es os b .party) count in
+        let arrays-are = ap (λ n. encode (arrays n) (parties ++ entries)) (sym many) ∙ encode-arrays parties entries parties-fit (many ∙ sym (length-blocks (λ b. shareOf es os b .entry) count)) in
+        λ i. byte i ∷ arrays-are i
+
+    -- each written where the part before it ends, in a buffer that has room for them
+    pub sheet-written : (b b₁ b₂ b₃ : List ℕ) → sheetLength count ≤ length b
+        → b₁ ≡ set b 0 count
+        → b₂ ≡ bytesPut 1 parties b₁
+        → b₃ ≡ bytesPut (1 + count) (wordBytes entries) b₂
+        → b₃ ≡ overwritten 0 (sheetOf count es os) b
+    sheet-written b b₁ b₂ b₃ room count-put parties-put entries-put =
+        let many = length-blocks (λ b. shareOf es os b .party) count in
+        let words = length-wordBytes entries in
+        let of-entries = length-blocks (λ b. shareOf es os b .entry) count in
+        let put₁ = count-put ∙ overwritten-one 0 count b (omega arith) in
+        let long₁ : length b₁ ≡ length b = ap length put₁ ∙ length-overwritten 0 (count ∷ []) b (omega arith) in
+        let put₂ = parties-put ∙ bytes-there 1 parties b₁ (omega arith) in
+        let long₂ : length b₂ ≡ length b = ap length put₂ ∙ length-overwritten 1 parties b₁ (omega arith) ∙ long₁ in
+        let put₃ = entries-put ∙ bytes-there (1 + count) (wordBytes entries) b₂ (omega (arith, words, of-entries)) in
+        overwritten-three (count ∷ []) parties (wordBytes entries) b b₁ b₂ b₃ put₁ put₂ (put₃ ∙ ap (λ n. overwritten (1 + n) (wordBytes entries) b₂) (sym many))
+        ∙ ap (λ l. overwritten 0 l b) (sym sheetOf-parts)
+
+-- ── Files ───────────────────────────────────────────────────────────────────────────────────────────────────────────────────
+
+module _ (file : List ℕ) (count room : ℕ) where
+  -- a file that is refused is refused so here
+  pub file-decides : (r : Refusal) → readFile file ≡ reading.Refused r → sheetAnswer file count room ≡ sheet.Refused r
+  file-decides r refused =
+      let found = first-of (first (readingChecks file)) refl refused in
+      ap (sheetBy count) (first-append-failed (readingChecks file) (checksBehind (sizesIn file) (scheduleIn file) count room) r found)
+    where
+      first-of : (c : Check) → first (readingChecks file) ≡ c → readingOf file c ≡ reading.Refused r → first (readingChecks file) ≡ Failed r
+      first-of Passed is e = absurd (let clash : _≡_ {A = ℕ} 0 1 = cc in omega arith)
+      first-of (Failed q) is e = let same : q ≡ r = cc in is ∙ ap Failed same
+
+  -- of one that is read, the checks behind decide
+  pub behind-decides : (s : Sizes) (n : ℕ) → readFile file ≡ Accepted s n → sheetAnswer file count room ≡ sheetBy count (first (checksBehind s (scheduleIn file) count room))
+  behind-decides s n accepted =
+      let passed = all-passed (first (readingChecks file)) refl accepted in
+      ap (sheetBy count) (first-append (readingChecks file) (checksBehind (sizesIn file) (scheduleIn file) count room) passed)
+      ∙ ap (λ t. sheetBy count (first (checksBehind t (scheduleIn file) count room))) (sym (accepted-readable file s n accepted .0))
+    where
+      all-passed : (c : Check) → first (readingChecks file) ≡ c → readingOf file c ≡ Accepted s n → first (readingChecks file) ≡ Passed
+      all-passed Passed is e = is
+      all-passed (Failed q) is e = absurd (let clash : _≡_ {A = ℕ} 0 1 = cc in omega arith)
+
+  -- what a file is of which a sheet is written
+  pub record Sheeted : Type 0 where
+    pub readable : Readable file
+    pub behind : Fit (sizesIn file) (scheduleIn file) count room
+
+  pub written-sheeted : (n : ℕ) → sheetAnswer file count room ≡ Written n → Sheeted
+  written-sheeted n written = go (readFile file) refl
+    where
+      fit-of : (c : Check) → first (checksBehind (sizesIn file) (scheduleIn file) count room) ≡ c → sheetBy count c ≡ Written n → Fit (sizesIn file) (scheduleIn file) count room
+      fit-of Passed passed e = passed-fit (sizesIn file) (scheduleIn file) count room passed
+      fit-of (Failed r) failed e = absurd (let clash : _≡_ {A = ℕ} 0 1 = cc in omega arith)
+
+      go : (answer : Reading) → readFile file ≡ answer → Sheeted
+      go (reading.Refused r) refused = absurd (let both = sym (file-decides r refused) ∙ written in let clash : _≡_ {A = ℕ} 0 1 = cc in omega arith)
+      go (Accepted s m) accepted =
+          let readable = accepted-readable file s m accepted .1 .1 in
+          record { readable = readable; behind = fit-of _ refl (sym (behind-decides (sizesIn file) (entriesIn file) (readable-accepted file readable)) ∙ written) }

@@ -1,0 +1,4 @@
+pub mod Laws
+pub mod Given
+pub mod Faults
+pub mod Sheets

@@ -1,0 +1,110 @@
+-- The share sheet of a design: which party planned which block. Renders request 2, in 02. A sheet says of each block what the run's outcomes say of it; that no two entries say something of one block is a theorem (`Given`).
+use mathlib.Core.Bool.{Bool, false, cond, not, _&&_, _||_}
+use mathlib.Core.List.{List, [], _∷_, _++_, map}
+use Prim.Native.Nat.{ℕ, _+_, _*_}
+use lib.Dec.{eqb, ltb}
+use lib.ListN.{length, getD, take}
+use Rattle.terms.specs.Kinds.{partyNumber}
+use Rattle.terms.specs.Lists.{concatMap, occurrences, range, rangeFrom}
+use Rattle.terms.specs.Outcome.{numberOf, valueOf}
+use Rattle.terms.specs.Sizes.{enoughMargin, within}
+use Rattle.properties.specs.ExactlyOnce.{numberPut}
+use Rattle.number.specs.Number.{overwritten}
+use Rattle.schedule.specs.Check.{failIf, first}
+use Rattle.schedule.specs.Format.{arrays, encode, sizesIn}
+use Rattle.schedule.specs.Reader.{readingChecks}
+use Rattle.schedule.specs.Run.{outcomesIn, scheduleIn}
+use Rattle.share_sheet.specs.Types.{Block, Check, Drain, Entry, Failed, Margin, Moved, Outcome, Passed, Room, Sheet, Size, Sizes, Written}
+use Rattle.share_sheet.specs.declared.sheet.Sheet.the-variants as sheet
+
+-- ── What a sheet says of a block ────────────────────────────────────────────────────────────────────────────────────────────
+
+-- an outcome is TASK, with this block's number
+abbrev pub gives : ℕ → Outcome → Bool
+gives block o = eqb (numberOf o) 17 && eqb (valueOf o) block
+
+-- of the first so many entries, those that answered TASK with the block
+abbrev pub givingUpTo : ℕ → ℕ → List Outcome → List ℕ
+givingUpTo n block os = concatMap (λ at. cond (gives block (getD os at Moved)) (at ∷ []) []) (range n)
+
+pub record Share : Type 0 where
+  -- 0 for the worker and i + 1 for thief i; 255 for a block that was not given
+  pub party : ℕ
+  -- the entry that answered TASK; 0 for a block that was not given
+  pub entry : ℕ
+
+-- by the entries that answered TASK with the block: there is one of them at most, or the first counts
+abbrev pub shareBy : List Entry → List ℕ → Share
+shareBy es [] = record { party = 255; entry = 0 }
+shareBy es (at ∷ l) = record { party = partyNumber (getD es at Drain); entry = at }
+
+-- the share of a block in a run, by its entries and their outcomes
+abbrev pub shareOf : List Entry → List Outcome → ℕ → Share
+shareOf es os block = shareBy es (givingUpTo (length os) block os)
+
+-- ── Its bytes ───────────────────────────────────────────────────────────────────────────────────────────────────────────────
+
+-- the blocks of a design of so many, in their order
+abbrev pub blocks : ℕ → List ℕ
+blocks count = rangeFrom 1 count
+
+-- How many bytes each number of a sheet has, in the sheet's order: the count one, then the parties and the entries.
+abbrev pub sheetLayout : ℕ → List ℕ
+sheetLayout count = 1 ∷ arrays count
+
+abbrev pub sheetLength : ℕ → ℕ
+sheetLength count = 1 + 5 * count
+
+abbrev pub sheetOf : ℕ → List Entry → List Outcome → List ℕ
+sheetOf count es os =
+    encode (sheetLayout count) (count ∷ (map (λ b. shareOf es os b .party) (blocks count) ++ map (λ b. shareOf es os b .entry) (blocks count)))
+
+-- ── Checks ──────────────────────────────────────────────────────────────────────────────────────────────────────────────────
+
+-- the number that an entry begins to put, in a list of at most one, is no block's, or one of those used before
+abbrev pub wrongNumber : ℕ → List ℕ → List ℕ → Bool
+wrongNumber count used [] = false
+wrongNumber count used (x ∷ l) = not (within 1 count x) || ltb 0 (occurrences x used)
+
+-- the numbers that the first so many entries begin to put, whatever their outcomes are
+abbrev pub putsUpTo : ℕ → List Entry → List ℕ
+putsUpTo n es = concatMap numberPut (take n es)
+
+-- the entry at a place is a begin put whose operand is 0, above the count or used by an earlier begin put
+abbrev pub wrongBlock : ℕ → List Entry → ℕ → Bool
+wrongBlock count es at = wrongNumber count (putsUpTo at es) (numberPut (getD es at Drain))
+
+-- all begin puts: the first wrong one decides
+abbrev pub checkBlocks : ℕ → List Entry → Check
+checkBlocks count es = first (map (λ at. failIf (wrongBlock count es at) (Block at)) (range (length es)))
+
+-- the checks of a schedule that was read, in their order; SIZE's place for the count is behind those of a file's sizes
+abbrev pub checksBehind : Sizes → List Entry → ℕ → ℕ → List Check
+checksBehind s es count room =
+    failIf (not (within 1 255 count)) (Size 7)
+    ∷ failIf (not (enoughMargin s)) Margin
+    ∷ checkBlocks count es
+    ∷ failIf (ltb room (sheetLength count)) Room
+    ∷ []
+
+-- all checks, in their order: the reader's come first
+abbrev pub sheetChecks : List ℕ → ℕ → ℕ → List Check
+sheetChecks file count room = readingChecks file ++ checksBehind (sizesIn file) (scheduleIn file) count room
+
+-- ── The answer, and the lent buffer ─────────────────────────────────────────────────────────────────────────────────────────
+
+abbrev pub sheetBy : ℕ → Check → Sheet
+sheetBy count Passed = Written (sheetLength count)
+sheetBy count (Failed r) = sheet.Refused r
+
+-- the answer for a file, a count and a buffer of so many bytes: how many bytes the sheet has, or the refusal
+abbrev pub sheetAnswer : List ℕ → ℕ → ℕ → Sheet
+sheetAnswer file count room = sheetBy count (first (sheetChecks file count room))
+
+abbrev pub bufferIf : List ℕ → List ℕ → Sheet → List ℕ
+bufferIf new buffer (Written n) = overwritten 0 new buffer
+bufferIf new buffer (sheet.Refused r) = buffer
+
+-- what the buffer holds afterwards: the sheet and, beyond it, what it held; if refused, all that it held
+abbrev pub sheetAfter : List ℕ → ℕ → List ℕ → List ℕ
+sheetAfter file count buffer = bufferIf (sheetOf count (scheduleIn file) (outcomesIn file)) buffer (sheetAnswer file count (length buffer))
