@@ -5,7 +5,7 @@ use crate::damage::damaged;
 use crate::random::Random;
 use crate::schedule::MOST_ENTRIES;
 use crate::tally::{Count, Tally};
-use crate::{generate, likeness, plain, writer};
+use crate::{designs, generate, likeness, plain, writer};
 
 /// One random case. Every other one has the next length, until all lengths have
 /// come up once; the rest are short to medium, so that a run of few cases has
@@ -17,7 +17,8 @@ pub fn case(seed: u64, number: u64, tally: &mut Tally) -> Verdict {
     }
     let length = length(&mut random);
     match random.below(100) {
-        0..=67 => sound(length, &mut random, tally),
+        0..=61 => sound(length, &mut random, tally),
+        62..=67 => designs::examine(length, &mut random, tally),
         68..=91 => damage(length, &mut random, tally),
         _ => writer::random_call(length, &mut random, tally),
     }

@@ -1,9 +1,11 @@
-//! What every file is taken through: read, run and round trip, on both sides.
+//! What every file is taken through: read, run, round trip and share sheets, on
+//! both sides.
 
 use std::fmt::Debug;
 
 use crate::lent::Lent;
 use crate::schedule::{number_at, trace_room, Draft, ABORT, TASK, WAIT};
+use crate::sheets;
 use crate::sides::{Answer, Side, PROVED, REFERENCE, SIZES_ROOM, TOTALS_ROOM};
 use crate::tally::{Tally, OUTCOMES};
 
@@ -59,7 +61,7 @@ impl Ran {
 /// One file on its way through the comparisons.
 pub struct Case<'a> {
     file: &'a [u8],
-    pattern: u64,
+    pub pattern: u64,
 }
 
 impl<'a> Case<'a> {
@@ -76,6 +78,7 @@ impl<'a> Case<'a> {
             tally.refusal(read.number);
             self.hold("a refused read leaves its memory", true, sizes.untouched())?;
             self.refused_run(read)?;
+            sheets::refused(self, read, tally)?;
             return Ok(Err(read));
         }
         let given = sizes.content();
@@ -83,7 +86,9 @@ impl<'a> Case<'a> {
         let entries = read.low as usize;
         let ran = self.run(entries, tally)?;
         self.short_run(entries, tally)?;
-        self.round_trip(tally)?;
+        let draft = Draft::of_accepted(self.file);
+        self.round_trip(&draft, tally)?;
+        sheets::accepted(self, &draft, &ran, tally)?;
         Ok(Ok(ran))
     }
 
@@ -156,8 +161,7 @@ impl<'a> Case<'a> {
 
     /// Writing what was read gives the file again, and nothing where it
     /// doesn't fit.
-    fn round_trip(&self, tally: &mut Tally) -> Verdict {
-        let draft = Draft::of_accepted(self.file);
+    fn round_trip(&self, draft: &Draft, tally: &mut Tally) -> Verdict {
         let (kinds, operands) = (draft.kinds(), draft.operands());
         let length = self.file.len();
         let spare = (self.pattern % 9) as usize;
@@ -184,6 +188,14 @@ impl<'a> Case<'a> {
             (side.write)(sizes, kinds, operands, lent)
         })?;
         Ok((answer, file))
+    }
+
+    /// Writes the share sheet of `count` blocks on both sides into `room` bytes.
+    pub fn sheet(&self, count: u32, room: usize) -> Result<(Answer, Lent), Disagreement> {
+        let (answer, [sheet]) = self.lend("share sheet", [("sheet", room)], |side, [lent]| {
+            (side.share_sheet)(self.file, count, lent)
+        })?;
+        Ok((answer, sheet))
     }
 
     /// Calls both sides with equal lent memory, each with its name and its room,

@@ -44,6 +44,13 @@ extern "C" {
         file: *mut u8,
         file_len: usize,
     ) -> u64;
+    fn rehearsal_share_sheet(
+        file: *const u8,
+        file_len: usize,
+        count: u32,
+        sheet: *mut u8,
+        sheet_len: usize,
+    ) -> u64;
     fn rehearsal_needed_margin(buffer: u32, spacing: u32) -> u32;
 }
 
@@ -99,6 +106,21 @@ pub fn write(sizes: &[u32; 6], kinds: &[u8], operands: &[u32], file: &mut [u8]) 
             operands.len(),
             file.as_mut_ptr(),
             file.len(),
+        )
+    };
+    Answer::unpack(answer)
+}
+
+/// Writes the share sheet of a file with `count` blocks.
+pub fn share_sheet(file: &[u8], count: u32, sheet: &mut [u8]) -> Answer {
+    // SAFETY: `file` is only read, `sheet` is exclusive; see the module's reasons.
+    let answer = unsafe {
+        rehearsal_share_sheet(
+            file.as_ptr(),
+            file.len(),
+            count,
+            sheet.as_mut_ptr(),
+            sheet.len(),
         )
     };
     Answer::unpack(answer)

@@ -7,8 +7,8 @@
 
 use crate::random::Random;
 use crate::schedule::{
-    Draft, BEGIN_PUT, BEGIN_STEAL, BEGIN_TAKE, CLIENT_STORE, DRAIN, EARLY, LAST_INDEX,
-    MOST_ENTRIES, PLACE, SPACING, THIEF_STEP, THIEVES, WAIT, WORKER_STEP,
+    Draft, BEGIN_PUT, BEGIN_STEAL, BEGIN_TAKE, BUFFER, CLIENT_STORE, DRAIN, EARLY, LAST_INDEX,
+    MARGIN, MOST_ENTRIES, PLACE, SLOTS, SPACING, THIEF_STEP, THIEVES, WAIT, WORKER_STEP,
 };
 
 /// What is drawn. Shares are out of a thousand.
@@ -85,6 +85,12 @@ const fn progressing(leans: &'static [Lean]) -> Flavour {
 pub fn schedule(length: usize, random: &mut Random) -> Draft {
     let flavour = random.pick(&FLAVOURS);
     flavoured(sizes(random), &flavour, length, random)
+}
+
+/// The same with enough margin.
+pub fn with_enough_margin(length: usize, random: &mut Random) -> Draft {
+    let flavour = random.pick(&FLAVOURS);
+    flavoured(enough_sizes(random), &flavour, length, random)
 }
 
 /// A sound schedule of given sizes and flavour.
@@ -202,6 +208,18 @@ pub fn sizes(random: &mut Random) -> [u32; 6] {
     let thieves = random.pick(&[1, any.min(3), any, 8]);
     let start = start(slots, random);
     [slots, buffer, spacing, margin, thieves, start]
+}
+
+/// Sizes in range whose margin is enough, mostly just enough.
+fn enough_sizes(random: &mut Random) -> [u32; 6] {
+    let mut sizes = sizes(random);
+    let buffer = sizes[BUFFER];
+    let needed = reference::needed_margin(buffer, sizes[SPACING]);
+    let more = random.between(needed, 64);
+    let margin = random.pick(&[needed, needed, needed, more, 0]);
+    sizes[MARGIN] = margin;
+    sizes[SLOTS] = slots(if margin == 0 { buffer } else { margin }, random);
+    sizes
 }
 
 fn buffer(random: &mut Random) -> u32 {

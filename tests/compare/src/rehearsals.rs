@@ -1,6 +1,6 @@
 //! The rehearsals: M1 to M9, the paper's example, and stories that a planner
 //! meets, each told step by step with what every step must answer. All but M1
-//! are files of `examples/` too.
+//! are files of `examples/` too, and so is the share sheet of one.
 
 use crate::checks::{Case, Verdict};
 use crate::schedule::{
@@ -8,6 +8,7 @@ use crate::schedule::{
     THIEF_STEP, WAIT,
 };
 use crate::script::Script;
+use crate::sheets::{self, sheet_room, Share, NOT_GIVEN};
 use crate::sides::{PROVED, REFERENCE};
 use crate::tally::Tally;
 
@@ -15,16 +16,36 @@ pub struct Rehearsal {
     /// The name of its file, without the ending.
     pub name: &'static str,
     pub script: Script,
+    /// The shares of its blocks, where it is a design.
+    shares: Option<&'static [Share]>,
 }
 
 impl Rehearsal {
-    pub fn file_name(&self) -> String {
-        format!("{}.schedule", self.name)
+    /// Its files, by name, and their bytes.
+    pub fn files(&self) -> Vec<(String, Vec<u8>)> {
+        let schedule = format!("{}.schedule", self.name);
+        let mut files = vec![(schedule, self.script.draft.bytes())];
+        if let Some(shares) = self.shares {
+            let sheet = format!("{}.sheet", self.name);
+            files.push((sheet, sheets::assemble(shares)));
+        }
+        files
     }
 
     pub fn hold(&self, tally: &mut Tally) -> Verdict {
         let held = self.script.follow(tally);
+        let held = held.and_then(|()| self.hold_sheet(tally));
         held.map_err(|found| found.of(self.name))
+    }
+
+    fn hold_sheet(&self, tally: &mut Tally) -> Verdict {
+        let Some(shares) = self.shares else {
+            return Ok(());
+        };
+        let count = shares.len() as u32;
+        let file = self.script.draft.bytes();
+        let case = Case::new(&file, file.len() as u64);
+        sheets::hold(&case, count, sheet_room(count), Ok(shares), tally)
     }
 }
 
@@ -45,7 +66,11 @@ const MARGINS: [(u32, u32, u32); 3] = [(33, 1, 17), (32, 0, 32), (64, 63, 1)];
 
 /// Every rehearsal that is a schedule.
 pub fn all() -> Vec<Rehearsal> {
-    let named = |(name, script)| Rehearsal { name, script };
+    let named = |(name, script)| Rehearsal {
+        name,
+        script,
+        shares: None,
+    };
     let told = [
         ("paper-example", example()),
         ("m2-given-twice", two_taken_unseen(1).steal(0, TASK, 11)),
@@ -72,7 +97,12 @@ pub fn all() -> Vec<Rehearsal> {
         ("story-puts-between-takes", puts_between()),
         ("story-refused", refused()),
     ];
-    told.map(named).into()
+    let design = Rehearsal {
+        name: "story-share-sheet",
+        script: design(),
+        shares: Some(&SHARES),
+    };
+    told.map(named).into_iter().chain([design]).collect()
 }
 
 /// M1, then every needed margin in range.
@@ -229,6 +259,21 @@ fn puts_between() -> Script {
     let early = stored.take(502).gets(BEGIN_TAKE, 0, EARLY, 0);
     let early = early.put(503).gets(BEGIN_TAKE, 0, EARLY, 0);
     early.put(504).take(504)
+}
+
+/// The shares of the design's blocks, from 1 to 6.
+const SHARES: [Share; 6] = [(2, 43), (0, 52), (1, 36), NOT_GIVEN, (0, 47), NOT_GIVEN];
+
+/// Six blocks, of which 4 is never put. Each thief gets one and the worker two;
+/// then a thief sees too few to take block 6.
+fn design() -> Script {
+    let mut stored = Script::new([8, 4, 1, 2, 2, 0]);
+    for block in [3, 1, 6, 2, 5] {
+        stored = stored.put(block).drains(2);
+    }
+    let stolen = stored.steal(0, TASK, 3).steal(1, TASK, 1);
+    let taken = stolen.take(5).client_stores(1).take(2).drains(3);
+    taken.steal(0, ABORT, 0)
 }
 
 /// The third entry asks for a second thief, where there is one only.

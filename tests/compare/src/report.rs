@@ -5,7 +5,7 @@ use std::fs;
 use std::path::PathBuf;
 
 use crate::checks::Disagreement;
-use crate::tally::{Count, Tally, MACHINES, OUTCOMES, REFUSALS};
+use crate::tally::{Count, Tally, MACHINES, OUTCOMES, REFUSALS, SHEETS};
 
 /// Files up to this length are printed whole.
 const PRINTED: usize = 512;
@@ -17,9 +17,10 @@ pub struct Part {
     pub seconds: f64,
 }
 
-const KINDS: [(&str, Count); 3] = [
+const KINDS: [(&str, Count); 4] = [
     ("sound schedules", Count::SoundFiles),
     ("damaged files", Count::DamagedFiles),
+    ("designs", Count::Designs),
     ("calls of the writer", Count::WriterCalls),
 ];
 
@@ -63,6 +64,8 @@ pub fn print_table(parts: &[Part], steps: &Tally, random: &Tally) {
     rows(&PAIRS, random);
     println!("random runs beside the plain queue");
     rows(&JUDGED, random);
+    println!("share sheets, in random cases");
+    rows(&SHEETS, random);
 }
 
 fn outcomes(seen: &Tally) {

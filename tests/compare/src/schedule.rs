@@ -20,6 +20,7 @@ pub const RANGES: [(u32, u32); 7] = [
     (0, MOST_ENTRIES as u32),
 ];
 
+pub const SLOTS: usize = 0;
 pub const BUFFER: usize = 1;
 pub const SPACING: usize = 2;
 pub const MARGIN: usize = 3;

@@ -59,6 +59,7 @@ pub struct Side {
     pub run: fn(&[u8], &mut [u8], &mut [u8]) -> Answer,
     pub alike: fn(&[u8], &[u8]) -> Answer,
     pub write: Write,
+    pub share_sheet: fn(&[u8], u32, &mut [u8]) -> Answer,
     pub needed_margin: fn(u32, u32) -> u32,
 }
 
@@ -69,6 +70,7 @@ pub static PROVED: Side = Side {
     run: ffi::run,
     alike: ffi::alike,
     write: ffi::write,
+    share_sheet: ffi::share_sheet,
     needed_margin: ffi::needed_margin,
 };
 
@@ -79,6 +81,7 @@ pub static REFERENCE: Side = Side {
     run: reference_run,
     alike: reference_alike,
     write: reference_write,
+    share_sheet: reference_share_sheet,
     needed_margin: reference::needed_margin,
 };
 
@@ -112,6 +115,10 @@ fn reference_alike(first: &[u8], second: &[u8]) -> Answer {
 fn reference_write(sizes: &[u32; 6], kinds: &[u8], operands: &[u32], file: &mut [u8]) -> Answer {
     let sizes = from_file_order(sizes);
     Answer::of(reference::write(&sizes, kinds, operands, file))
+}
+
+fn reference_share_sheet(file: &[u8], count: u32, sheet: &mut [u8]) -> Answer {
+    Answer::of(reference::share_sheet(file, count, sheet))
 }
 
 pub fn from_file_order(sizes: &[u32; 6]) -> Sizes {

@@ -32,6 +32,7 @@ pub enum Count {
     SoundFiles,
     DamagedFiles,
     WriterCalls,
+    Designs,
     Alike,
     NotAlike,
     AlikeRefused,
@@ -43,6 +44,20 @@ pub enum Count {
     EnoughNearLastIndex,
     JudgedShort,
     ShortHarmed,
+    SheetsWritten,
+    SheetsOfAll,
+    SheetsOfThieves,
+    GivenToWorker,
+    GivenToThief,
+    PutNotGiven,
+    NeverPut,
+    SheetFile,
+    SheetCount,
+    SheetMargin,
+    SheetBlock,
+    RepeatedOutOfPlace,
+    RepeatedWhenFull,
+    SheetRoom,
     InRange,
     OutOfRange,
 }
@@ -51,6 +66,24 @@ pub enum Count {
 pub const MACHINES: [(&str, Count); 2] = [
     ("machines in range", Count::InRange),
     ("machines out of range", Count::OutOfRange),
+];
+
+/// What becomes of share sheets, and of the blocks in those that are written.
+pub const SHEETS: [(&str, Count); 14] = [
+    ("sheets written", Count::SheetsWritten),
+    ("  sheets of worker, thief and nobody", Count::SheetsOfAll),
+    ("  sheets of several thieves", Count::SheetsOfThieves),
+    ("  blocks given to the worker", Count::GivenToWorker),
+    ("  blocks given to a thief", Count::GivenToThief),
+    ("  blocks put and not given", Count::PutNotGiven),
+    ("  blocks never put", Count::NeverPut),
+    ("sheets refused, 1 to 4 of the file", Count::SheetFile),
+    ("sheets refused, 1 SIZE of the count", Count::SheetCount),
+    ("sheets refused, 9 MARGIN", Count::SheetMargin),
+    ("sheets refused, 10 BLOCK", Count::SheetBlock),
+    ("  a block repeated out of place", Count::RepeatedOutOfPlace),
+    ("  a block repeated when full", Count::RepeatedWhenFull),
+    ("sheets refused, 8 ROOM", Count::SheetRoom),
 ];
 
 const COUNTS: usize = Count::OutOfRange as usize + 1;
@@ -109,13 +142,15 @@ impl Tally {
             .collect()
     }
 
-    /// Names of the outcomes and refusals that never came up.
+    /// Names of the outcomes, refusals and share sheets that never came up.
     pub fn missing(&self) -> Vec<&'static str> {
         let refusals = REFUSALS.iter().filter(|row| self.refusal_seen(row.0) == 0);
+        let sheets = SHEETS.iter().filter(|row| self.of(row.1) == 0);
         let outcomes = self.missing_outcomes();
         outcomes
             .into_iter()
             .chain(refusals.map(|row| row.1))
+            .chain(sheets.map(|row| row.0.trim_start()))
             .collect()
     }
 

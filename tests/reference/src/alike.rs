@@ -28,16 +28,8 @@ fn answers(sizes: &Sizes, entries: &[Entry<u32>]) -> Vec<Vec<Outcome<u32>>> {
     for &entry in entries {
         let outcome = bench.obey(entry);
         if outcome.is_answer() {
-            answers[party(entry)].push(outcome);
+            answers[entry.party()].push(outcome);
         }
     }
     answers
-}
-
-/// Only steps answer, so only a thief's step can answer to a thief.
-fn party(entry: Entry<u32>) -> usize {
-    match entry {
-        Entry::ThiefStep(thief) => 1 + thief as usize,
-        _ => 0,
-    }
 }

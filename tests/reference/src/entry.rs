@@ -49,6 +49,16 @@ impl Entry<u32> {
 }
 
 impl<T> Entry<T> {
+    /// Whose answer an answer to this entry is: 0 for the worker, 1 + its
+    /// number for a thief. Only steps answer, so only a thief's step can
+    /// answer to a thief.
+    pub(crate) fn party(&self) -> usize {
+        match *self {
+            Entry::ThiefStep(thief) => 1 + thief as usize,
+            _ => 0,
+        }
+    }
+
     /// The same order with the put's task written in another way.
     pub(crate) fn map_task<U>(self, f: impl FnOnce(T) -> U) -> Entry<U> {
         match self {

@@ -4,7 +4,8 @@
 //! A schedule file says, entry by entry, which party moves next. [`run`] obeys
 //! it and leaves a trace, [`lines`] says the same in text, [`alike`] compares
 //! what two schedules answer, and [`plain_queue::judge`] holds the answers
-//! against a queue that has no late stores at all.
+//! against a queue that has no late stores at all. Where tasks are the blocks
+//! of a design, [`share_sheet`] writes down which party was given which.
 //!
 //! Smaller questions have answers of their own: [`step_of_image`] makes one
 //! step on any machine, also one out of range, [`entry_at`] says what stands at
@@ -26,6 +27,7 @@ pub mod plain_queue;
 mod refusal;
 #[cfg(test)]
 mod rehearsals;
+mod share_sheet;
 mod sizes;
 mod trace;
 
@@ -35,5 +37,6 @@ pub use image::{fresh_image, step_of_image, IMAGE_BYTES};
 pub use lines::lines;
 pub use outcome::Totals;
 pub use refusal::Refusal;
+pub use share_sheet::share_sheet;
 pub use sizes::{needed_margin, Sizes};
 pub use trace::run;

@@ -5,7 +5,9 @@ mod common;
 
 use common::{file, refusal, Dice, SHORT, SIZES};
 use reference::plain_queue::judge;
-use reference::{alike, entry_at, lines, parts, read, run, write, Refusal, Sizes, Totals};
+use reference::{
+    alike, entry_at, lines, parts, read, run, share_sheet, write, Refusal, Sizes, Totals,
+};
 
 const ROOM: Refusal = refusal(8, 0);
 
@@ -15,6 +17,8 @@ fn assert_refused(file: &[u8], expected: Refusal) {
     assert_eq!(read(file), Err(expected));
     assert_eq!(run(file, &mut trace), Err(expected));
     assert_eq!(run(file, &mut []), Err(expected), "ROOM comes last");
+    assert_eq!(trace, [0xee; 64]);
+    assert_eq!(share_sheet(file, 1, &mut trace), Err(expected));
     assert_eq!(trace, [0xee; 64]);
     assert_eq!(judge(file), Err(expected));
     assert_eq!(parts(file), (&[][..], &[][..]));

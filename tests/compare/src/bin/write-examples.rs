@@ -11,7 +11,9 @@ fn main() -> io::Result<()> {
     let directory = named.map_or_else(|| PathBuf::from("examples"), PathBuf::from);
     fs::create_dir_all(&directory)?;
     for told in rehearsals::all() {
-        fs::write(directory.join(told.file_name()), told.script.draft.bytes())?;
+        for (name, bytes) in told.files() {
+            fs::write(directory.join(name), bytes)?;
+        }
     }
     Ok(())
 }

@@ -14,11 +14,14 @@ use comparing::random::Random;
 use comparing::rehearsals::{Rehearsal, EXAMPLE_LINES};
 use comparing::report::Part;
 use comparing::rooms::Rooms;
+use comparing::sheet_edges::SheetEdge;
 use comparing::single::{edge_files, Single};
 use comparing::spread::{spread, Failure};
 use comparing::tally::Tally;
 use comparing::writer::Written;
-use comparing::{campaign, damage, edges, limits, machines, rehearsals, rooms, steps, writer};
+use comparing::{
+    campaign, damage, edges, limits, machines, rehearsals, rooms, sheet_edges, steps, writer,
+};
 
 use crate::options::Options;
 
@@ -54,6 +57,7 @@ pub fn lists(options: &Options) -> Result<Vec<Part>, Found> {
     let damaged = drafts().flat_map(|draft| damage::samples(&draft.bytes()));
     let damaged: Vec<_> = damaged.collect();
     let short = short_margins(options.seed);
+    let sheets = sheet_edges::all();
     let file = |file: &Vec<u8>, tally: &mut Tally| campaign::file(file, tally);
     Ok(vec![
         each("rehearsals", &told, Rehearsal::hold)?,
@@ -62,6 +66,7 @@ pub fn lists(options: &Options) -> Result<Vec<Part>, Found> {
         each("edges of files", &edges::files(), Edge::hold)?,
         each("edges of lent memory", &rooms::all(), Rooms::hold)?,
         each("edges of the writer", &writer::edges(), Written::hold)?,
+        each("edges of share sheets", &sheets, SheetEdge::hold)?,
         each("margins below the needed one", &short, hold_short)?,
     ])
 }
@@ -172,15 +177,17 @@ fn single_functions(single: &Single, seed: u64) -> Result<Vec<Part>, Found> {
     Ok(rows.map(|(part, _)| part).into())
 }
 
-/// The rehearsal's file in `examples/`, which must be the one that is told.
+/// The rehearsal's schedule in `examples/`. All its files there must be those that
+/// are told.
 fn stored_rehearsal(told: &Rehearsal) -> Result<Vec<u8>, Disagreement> {
-    let path = Path::new("examples").join(told.file_name());
-    let file = read(&path)?;
-    if file == told.script.draft.bytes() {
-        return Ok(file);
+    for (name, bytes) in told.files() {
+        let path = Path::new("examples").join(name);
+        if read(&path)? != bytes {
+            let what = format!("{} is not the file that is told", path.display());
+            return Err(Disagreement::without_file(what));
+        }
     }
-    let what = format!("{} is not the file that is told", path.display());
-    Err(Disagreement::without_file(what))
+    Ok(told.script.draft.bytes())
 }
 
 fn read(path: &Path) -> Result<Vec<u8>, Disagreement> {
