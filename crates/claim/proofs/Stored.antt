@@ -5,21 +5,20 @@ use mathlib.Core.List.{List, [], _∷_, _++_, map, map-append}
 use Prim.Native.Nat.{ℕ, _+_, _-_, _≤_, _<_}
 use native.Mathlib.Omega.{arith}
 use lib.Dec.{eqb}
-use lib.ListN.{drop, length, take}
+use lib.ListN.{length, take}
 use borrow.Author.Tests.{eq-eqb}
 use Rattle.terms.specs.Lists.{concatMap, occurrences}
 use Rattle.terms.specs.Outcome.{isAnswer, isStored, numberOf}
 use Rattle.terms.proofs.Laws.Sums.{Adds, adds-map, adds-occurrences}
 use Rattle.terms.proofs.Laws.Tests.{either}
 use Rattle.claim.specs.Types.{Outcome, Moved, Place, Early, Wait, Stored, Task, Empty, Abort, Full, End, Sizes}
-use Rattle.claim.specs.PlainQueue.{PlainQueue, StoredTask, joined, leaves, newest, respond, storedBy, unchanged, withoutNewest}
+use Rattle.claim.specs.PlainQueue.{PlainQueue, StoredTask, joined, leaves, newest, respond, storedBy, unchanged}
 use Rattle.claim.specs.Calls.{Begun, nothing, aPut, aTake, aSteal, Effect, none, decided, Party, worker, thief, PartyCall, answersTo, callAfter, sameParty, toldOf}
 use Rattle.claim.specs.Implementation.{Implementation}
 use Rattle.claim.specs.Watch.{Watch, callAt, effectAt, events, repliesAt, toldAt, watchAfter}
 use Rattle.claim.specs.Account.{storedIn}
 use Rattle.claim.specs.Linearizable.{expected}
 use Rattle.claim.proofs.Account.{callAfter-replies}
-use Rattle.claim.proofs.Lawful.{Lawful}
 use Rattle.claim.proofs.Theorem.{Shows}
 
 -- how often STORED stands among outcomes

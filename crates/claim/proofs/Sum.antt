@@ -1,7 +1,6 @@
 -- What the sum of the plain queue beside a run counts.
-use mathlib.Core.Path.{_≡_}
 use mathlib.Core.List.{List, [], _∷_, append-nil, map}
-use Prim.Native.Nat.{ℕ, _+_, _≤_, zero-le}
+use Prim.Native.Nat.{_≤_, zero-le}
 use native.Mathlib.Omega.{arith}
 use lib.ListN.{length, length-append}
 use Rattle.terms.specs.Lists.{concatMap}

@@ -2,7 +2,7 @@
 -- queue", the sentence on what the sum is.
 use mathlib.Core.Path.{_≡_}
 use mathlib.Core.List.{List}
-use Prim.Native.Nat.{ℕ, _+_}
+use Prim.Native.Nat.{_+_}
 use lib.ListN.{length}
 use Rattle.terms.specs.Lists.{concatMap}
 use Rattle.claim.specs.Types.{Sizes}

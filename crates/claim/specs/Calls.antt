@@ -16,7 +16,7 @@ pub data Party : Type 0 where
   worker : Party
   thief : ℕ → Party
 
--- parties counted, as entries tell theirs
+-- the party with this number (`partyNumber`)
 abbrev pub counted : ℕ → Party
 counted zero = worker
 counted (suc i) = thief i

@@ -14,7 +14,7 @@ ghost use Prim.Native.Nat.{_<_};
 ghost use Rattle.machine.specs.InRange.{inRange};
 ghost use Rattle.machine.specs.Machine.{thiefCall};
 ghost use Rattle.machine.specs.Obey.{obey};
-ghost use Rattle.machine.specs.Perform.{performThief, thiefView, workerView};
+ghost use Rattle.machine.specs.Perform.{thiefView, workerView};
 ghost use Rattle.machine.specs.Types.{ThiefStep, WorkerStep};
 
 impl Machine {

@@ -69,8 +69,8 @@ AtTheEnd =
     × (wordPut 1 67305985 (9 ∷ 8 ∷ 7 ∷ 6 ∷ 5 ∷ []) ≡ 9 ∷ 1 ∷ 2 ∷ 3 ∷ 4 ∷ [])
     × (wordPut 2 67305985 (9 ∷ 8 ∷ 7 ∷ 6 ∷ 5 ∷ []) ≡ 9 ∷ 8 ∷ 7 ∷ 6 ∷ 5 ∷ [])
     × (wordPut 0 67305985 (9 ∷ 8 ∷ 7 ∷ []) ≡ 9 ∷ 8 ∷ 7 ∷ [])
-    -- and of several: those that just fit, one too many, and none, which fit anywhere within
+    -- and of several: those that just fit, one too many, one far away
     × (bytesPut 1 (1 ∷ 2 ∷ []) (9 ∷ 8 ∷ 7 ∷ []) ≡ 9 ∷ 1 ∷ 2 ∷ [])
     × (bytesPut 2 (1 ∷ 2 ∷ []) (9 ∷ 8 ∷ 7 ∷ []) ≡ 9 ∷ 8 ∷ 7 ∷ [])
-    × (bytesPut 3 [] (9 ∷ 8 ∷ 7 ∷ []) ≡ 9 ∷ 8 ∷ 7 ∷ [])
+    × (bytesPut 18446744073709551615 (1 ∷ []) (9 ∷ 8 ∷ 7 ∷ []) ≡ 9 ∷ 8 ∷ 7 ∷ [])
     × (bytesPut 1 (wordBytes (67305985 ∷ 16909060 ∷ [])) (9 ∷ 9 ∷ 9 ∷ 9 ∷ 9 ∷ 9 ∷ 9 ∷ 9 ∷ 9 ∷ 9 ∷ []) ≡ 9 ∷ 1 ∷ 2 ∷ 3 ∷ 4 ∷ 4 ∷ 3 ∷ 2 ∷ 1 ∷ 9 ∷ [])

@@ -23,7 +23,7 @@ use Rattle.machine.specs.Perform.{thiefView, workerView}
 use Rattle.claim.proofs.Follows.{same-party}
 use Rattle.machine.proofs.Laws.InRange.{bounds}
 use Rattle.machine.proofs.Linearizable.Theorem.{idle-at}
-use Rattle.properties.specs.Types.{Done, Entry, Drain, ClientStore, BeginPut, BeginTake, WorkerStep, BeginSteal, ThiefStep, Machine, Outcome, Moved, Place, Early, Wait, Sizes, ThiefCall, StealLock, StealLoadHead, StealRaiseHead, StealLoadTail, StealLoadSlot, StealUnlockTask, StealRestoreHead, StealUnlockAbort, ThiefMove, ThiefView, WorkerCall, PutLoadHead, PutStoreSlot, PutStoreTail, TakeStoreTail, TakeLoadHead, TakeLoadSlot, TakeLock, TakeReloadHead, TakeRestoreTail, TakeUnlockEmpty, TakeUnlockTask, TakeLoadLastSlot, WorkerMove, WorkerView}
+use Rattle.properties.specs.Types.{Done, Entry, Drain, ClientStore, BeginPut, BeginTake, WorkerStep, BeginSteal, ThiefStep, Machine, Outcome, Moved, Place, Early, Wait, ThiefCall, StealLock, StealLoadHead, StealRaiseHead, StealLoadTail, StealLoadSlot, StealUnlockTask, StealRestoreHead, StealUnlockAbort, ThiefMove, ThiefView, WorkerCall, PutLoadHead, PutStoreSlot, PutStoreTail, TakeStoreTail, TakeLoadHead, TakeLoadSlot, TakeLock, TakeReloadHead, TakeRestoreTail, TakeUnlockEmpty, TakeUnlockTask, TakeLoadLastSlot, WorkerMove, WorkerView}
 use Rattle.properties.specs.CallLength.{CallsEndInPlace, put, take, steal, Progress, asLongAsItMay, beginsAlone, callsEndInPlace, counting, goesOnAfter, noCall, noneRuns, unlessAnswered}
 
 -- ── The steps that a call has made, by the one that is next ─────────────────────────────────────────────────────────────────

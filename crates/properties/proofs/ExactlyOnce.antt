@@ -2,30 +2,27 @@
 use mathlib.Core.Path.{_≡_, refl, ap, sym, _∙_, subst}
 use mathlib.Core.Bool.{Bool, true, false, cond, false≢true}
 use mathlib.Core.List.{List, [], _∷_, _++_, map}
-use Prim.Native.Nat.{ℕ, zero, suc, _+_, _≤_}
+use Prim.Native.Nat.{ℕ, suc, _+_, _≤_}
 use native.Mathlib.Omega.{arith}
 use lib.Dec.{eqb, leb}
 use lib.ListN.{getD, length}
-use borrow.Author.Tests.{eqb-false, eqb-true, le-leb, leb-false, leb-true, lt-leb}
+use borrow.Author.Tests.{eqb-true, leb-false, leb-true}
 use Rattle.terms.specs.Lists.{concatMap, occurrences}
-use Rattle.terms.specs.Outcome.{isAnswer, isMoved, isRefusal, isStored}
-use Rattle.terms.specs.Sizes.{enoughMargin, sizesInRange}
+use Rattle.terms.specs.Outcome.{isAnswer, isMoved, isStored}
 use Rattle.terms.proofs.Laws.Sums.{adds-occurrences}
-use Rattle.claim.specs.Calls.{Begun, nothing, aPut, aTake, aSteal, Party, worker, thief, PartyCall, callAfter, noCall, orBegun, parties, sameParty, taskIn}
+use Rattle.claim.specs.Calls.{Begun, nothing, aPut, aTake, aSteal, Party, worker, thief, PartyCall, callAfter, orBegun, parties, sameParty, taskIn}
 use Rattle.claim.specs.Watch.{Event, Watch, callAt, events, watchAfter, watchFresh, watched}
-use Rattle.claim.specs.Account.{storedIn}
-use Rattle.claim.specs.Linearizable.{numbersAnsweredOrOwed}
 use Rattle.claim.proofs.Account.{account-numbers}
 use Rattle.claim.proofs.Stored.{StoresAtOnce, putNumber, run-stored, stored-answers, storedFrom, storedTimes}
-use Rattle.machine.specs.Machine.{fresh, memoryLoad, thiefCall, workerLoad}
-use Rattle.machine.specs.Obey.{machineAfter, obey, outcomesOf}
+use Rattle.machine.specs.Machine.{fresh, thiefCall}
+use Rattle.machine.specs.Obey.{obey, outcomesOf}
 use Rattle.machine.specs.Linearizable.{ffThe, owes, thiefOwes, workerOwes}
 use Rattle.machine.proofs.Laws.Obey.{ffThe-lawful}
 use Rattle.machine.proofs.Linearizable.Theorem.{demand3, fresh-plain, invariant-shows, run-stands-now}
 use Rattle.machine.proofs.Linearizable.Watched.{events-outcomes, watched-machine}
-use Rattle.properties.specs.Types.{Entry, Drain, ClientStore, BeginPut, BeginTake, WorkerStep, BeginSteal, ThiefStep, Machine, Outcome, Moved, Place, Early, Wait, Stored, Task, Empty, Abort, Full, End, Sizes, ThiefCall, StealLock, StealLoadHead, StealRaiseHead, StealLoadTail, StealLoadSlot, StealUnlockTask, StealRestoreHead, StealUnlockAbort, WorkerCall, PutLoadHead, PutStoreSlot, PutStoreTail, TakeStoreTail, TakeLoadHead, TakeLoadSlot, TakeLock, TakeReloadHead, TakeRestoreTail, TakeUnlockEmpty, TakeUnlockTask, TakeLoadLastSlot}
-use Rattle.properties.specs.Renumbering.{renumberEntry, renumberOutcome}
-use Rattle.properties.specs.ExactlyOnce.{AccountedByNumber, ExactlyOnce, NoneLostOrGivenTwice, given, held, numberIn, numberPut, numberedApart, numberedFrom, standing, stored, storedPuts}
+use Rattle.properties.specs.Types.{Entry, Drain, ClientStore, BeginPut, BeginTake, WorkerStep, BeginSteal, ThiefStep, Machine, Outcome, Moved, Place, Early, Wait, Stored, Task, Empty, Abort, Full, End, ThiefCall, StealLock, StealLoadHead, StealRaiseHead, StealLoadTail, StealLoadSlot, StealUnlockTask, StealRestoreHead, StealUnlockAbort, WorkerCall, PutLoadHead, PutStoreSlot, PutStoreTail, TakeStoreTail, TakeLoadHead, TakeLoadSlot, TakeLock, TakeReloadHead, TakeRestoreTail, TakeUnlockEmpty, TakeUnlockTask, TakeLoadLastSlot}
+use Rattle.properties.specs.Renumbering.{renumberEntry}
+use Rattle.properties.specs.ExactlyOnce.{AccountedByNumber, NoneLostOrGivenTwice, given, held, numberIn, numberPut, numberedApart, numberedFrom, standing, storedPuts}
 use Rattle.properties.proofs.Renumbering.{blind-to-numbers}
 
 -- ── Puts numbered apart ─────────────────────────────────────────────────────────────────────────────────────────────────────

@@ -15,7 +15,7 @@ use Rattle.claim.specs.Calls.{parties, taskIn}
 use Rattle.machine.specs.Machine.{fresh}
 use Rattle.machine.specs.Obey.{machineAfter, outcomesOf}
 use Rattle.machine.specs.Linearizable.{owes, standingNow}
-use Rattle.properties.specs.Types.{Entry, Drain, ClientStore, BeginPut, BeginTake, WorkerStep, BeginSteal, ThiefStep, Machine, Outcome, Sizes}
+use Rattle.properties.specs.Types.{Entry, Drain, ClientStore, BeginPut, BeginTake, WorkerStep, BeginSteal, ThiefStep, Outcome, Sizes}
 use Rattle.properties.specs.Renumbering.{renumberOutcome}
 
 -- ── Puts numbered apart ─────────────────────────────────────────────────────────────────────────────────────────────────────
@@ -94,8 +94,7 @@ pub record ExactlyOnce (s : Sizes) (es : List Entry) : Type 0 where
 abbrev pub NoneLostOrGivenTwice : Type 0
 NoneLostOrGivenTwice = (s : Sizes) (es : List Entry) → sizesInRange s ≡ true → enoughMargin s ≡ true → length es ≤ 4096 → ExactlyOnce s es
 
--- As numbers alone, each as often, the account holds of a list as it stands. Numbers of its own choice do not tell its puts apart, unless no two puts have one number, as those of a share sheet's
--- schedule (02's request 2). Proved in `proofs/ExactlyOnce.antt`.
+-- The same account in a list's own numbers, each as often. They tell its puts apart only where no two puts have one number, as in a schedule of which a share sheet is made (02's request 2). Proved in `proofs/ExactlyOnce.antt`.
 abbrev pub AccountedByNumber : Type 0
 AccountedByNumber =
     (s : Sizes) (es : List Entry) → sizesInRange s ≡ true → enoughMargin s ≡ true → length es ≤ 4096

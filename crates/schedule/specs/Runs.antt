@@ -51,7 +51,7 @@ abbrev pub isNotRun : ℕ → ℕ → Running → Bool
 isNotRun number place (Ran t) = false
 isNotRun number place (running.Refused r) = refusedBy r number place
 
--- a buffer before it is lent; no file and no trace of a table has a byte 170
+-- a buffer before it is lent; no file, trace or sheet of a table has a byte 170
 abbrev pub before : ℕ → List ℕ
 before room = replicate room 170
 

@@ -2,29 +2,31 @@
 use mathlib.Core.Path.{_≡_, refl, ap, sym, _∙_, subst}
 use mathlib.Core.Bool.{Bool, true, false, and-false, not, _&&_, false≢true}
 use mathlib.Core.List.{List}
-use Prim.Native.Nat.{ℕ, zero, suc}
-use native.Mathlib.Omega.{arith}
+use Prim.Native.Nat.{ℕ, zero, suc, _+_}
+use native.Mathlib.Nat.{zero-add}
 use lib.Dec.{eqb, ltb}
-use lib.ListN.{getD, length}
-use borrow.Author.Tests.{eqb-true, le-ltb, lt-ltb, ltb-true}
+use lib.ListN.{drop, getD, length}
+use lib.Seq.{drop-at}
+use borrow.Author.Tests.{eqb-true, le-ltb}
 use Rattle.terms.specs.Refusal.{Refuses, numberOf, placeOf}
 use Rattle.terms.specs.Sizes.{enoughMargin, within}
 use Rattle.terms.proofs.Laws.Tests.{and-left, and-right, decide, either}
-use Rattle.schedule.specs.Check.{failIf, first, sizesKept}
+use Rattle.schedule.specs.Check.{first}
 use Rattle.schedule.specs.Faults.{faultsOf, fileHas, refusalInReading}
 use Rattle.schedule.specs.Format.{entriesIn, kindsIn, sizesIn}
 use Rattle.schedule.specs.Reader.{readFile}
 use Rattle.schedule.specs.Run.{outcomesIn, scheduleIn}
 use Rattle.schedule.specs.declared.reader.Reading.the-variants as reading
 use Rattle.schedule.proofs.Faults.{reader-refuses-faults, still-fault}
-use Rattle.schedule.proofs.Laws.Check.{failIf-failed, failIf-passed, first-failed, not-both, range-failed, range-passed}
+use Rattle.schedule.proofs.Laws.Check.{failIf-failed, first-failed, not-both}
 use Rattle.schedule.proofs.Laws.Reader.{accepted-readable, readable-accepted}
-use Rattle.share_sheet.specs.Types.{Accepted, Block, Check, Failed, Margin, Passed, Reading, Refusal, Room, Sheet, Size}
+use Rattle.share_sheet.specs.Types.{Accepted, Check, Failed, Margin, Passed, Reading, Refusal, Room, Sheet, Size}
 use Rattle.share_sheet.specs.declared.sheet.Sheet.the-variants as sheet
-use Rattle.share_sheet.specs.Faults.{RefusedSheetUntouched, SheetRefusesFaults, refusalInSheet, sheetHas}
+use Rattle.share_sheet.specs.Faults.{BeyondUntouched, RefusedSheetUntouched, SheetRefusesFaults, refusalInSheet, sheetHas}
 use Rattle.share_sheet.specs.Given.{SheetTells}
-use Rattle.share_sheet.specs.Sheet.{bufferIf, checksBehind, sheetAfter, sheetAnswer, sheetBy, sheetLength, sheetOf, wrongBlock}
-use Rattle.share_sheet.proofs.Laws.Sheet.{Fit, behind-decides, file-decides, passed-fit}
+use Rattle.share_sheet.specs.Sheet.{bufferIf, checksAfterReading, sheetAfter, sheetAnswer, answerBy, sheetLength, sheetOf}
+use Rattle.share_sheet.proofs.FirstBlock.{check-tells-first-block}
+use Rattle.share_sheet.proofs.Laws.Sheet.{Fit, behind-decides, file-decides, length-sheetOf, passed-fit, written-length}
 use Rattle.share_sheet.proofs.Given.{every-sheet-tells}
 
 module _ (file : List ℕ) (count room : ℕ) where
@@ -51,39 +53,32 @@ module _ (file : List ℕ) (count room : ℕ) where
           false≢true (sym ((λ i. fileHas file (one i) (seven i))) ∙ e)
 
   -- what a check behind the reader's failed with is a fault
-  behind-fault : (r : Refusal) (i : ℕ) → getD (checksBehind (sizesIn file) (scheduleIn file) count room) i Passed ≡ Failed r → sheetHas file count room (numberOf r) (placeOf r) ≡ true
+  behind-fault : (r : Refusal) (i : ℕ) → getD (checksAfterReading (sizesIn file) (scheduleIn file) count room) i Passed ≡ Failed r → sheetHas file count room (numberOf r) (placeOf r) ≡ true
   behind-fault r zero e = let found = failIf-failed (not (within 1 255 count)) (Size 7) e in rw (found .1, found .0)
   behind-fault r (suc zero) e = let found = failIf-failed (not (enoughMargin (sizesIn file))) Margin e in rw (found .1, found .0)
   behind-fault r (suc (suc zero)) e =
-      let found = range-failed (λ at. failIf (wrongBlock count (scheduleIn file) at) (Block at)) (length (scheduleIn file)) r e in
-      let fault = failIf-failed (wrongBlock count (scheduleIn file) (found .0)) (Block (found .0)) (found .1 .1 .0) in
-      rw (fault .1, lt-ltb (found .0) (length (scheduleIn file)) (found .1 .0), fault .0)
+      let first = check-tells-first-block count (scheduleIn file) in
+      ap (λ n. sheetHas file count room n (placeOf r)) (ap numberOf (first .told r e)) ∙ first .here r e
   behind-fault r (suc (suc (suc zero))) e = let found = failIf-failed small Room e in rw (found .1, found .0)
   behind-fault r (suc (suc (suc (suc i)))) e = absurd (not-both (sym e))
 
   -- what passed all of them has none
-  no-fault : first (checksBehind (sizesIn file) (scheduleIn file) count room) ≡ Passed → ((number place : ℕ) → fileHas file number place ≡ false) → (number place : ℕ)
+  no-fault : first (checksAfterReading (sizesIn file) (scheduleIn file) count room) ≡ Passed → ((number place : ℕ) → fileHas file number place ≡ false) → (number place : ℕ)
       → sheetHas file count room number place ≡ false
   no-fault passed clean number place =
-      either (λ b. b ≡ false) (eqb number 10) (right (ltb place (length (scheduleIn file))) refl)
+      either (λ b. b ≡ false) (eqb number 10) (check-tells-first-block count (scheduleIn file) .passed (fit .right) place)
       (either (λ b. b ≡ false) (eqb number 9) (rw (fit .enough, and-false (eqb place 3)))
       (either (λ b. b ≡ false) (eqb number 1 && eqb place 7) (rw (fit .inside)) (ap (λ b. faultsOf file b number place) (le-ltb room (sheetLength count) (fit .fits)) ∙ clean number place)))
     where
       fit : Fit (sizesIn file) (scheduleIn file) count room
       fit = passed-fit (sizesIn file) (scheduleIn file) count room passed
 
-      right : (inside : Bool) → ltb place (length (scheduleIn file)) ≡ inside → (inside && wrongBlock count (scheduleIn file) place) ≡ false
-      right false past = refl
-      right true there =
-          failIf-passed (wrongBlock count (scheduleIn file) place) (Block place)
-          (range-passed (λ at. failIf (wrongBlock count (scheduleIn file) at) (Block at)) (length (scheduleIn file)) (fit .right) place (ltb-true place (length (scheduleIn file)) there))
-
 pub sheet-refuses-faults : SheetRefusesFaults
 sheet-refuses-faults file count room = go (readFile file) refl (reader-refuses-faults file)
   where
-    behind : (c : Check) → first (checksBehind (sizesIn file) (scheduleIn file) count room) ≡ c → ((number place : ℕ) → fileHas file number place ≡ false) → Refuses (sheetHas file count room) (refusalInSheet (sheetBy count c))
+    behind : (c : Check) → first (checksAfterReading (sizesIn file) (scheduleIn file) count room) ≡ c → ((number place : ℕ) → fileHas file number place ≡ false) → Refuses (sheetHas file count room) (refusalInSheet (answerBy count c))
     behind Passed passed clean = no-fault file count room passed clean
-    behind (Failed r) failed clean = let found = first-failed (checksBehind (sizesIn file) (scheduleIn file) count room) r failed in behind-fault file count room r (found .0) (found .1 .1 .0)
+    behind (Failed r) failed clean = let found = first-failed (checksAfterReading (sizesIn file) (scheduleIn file) count room) r failed in behind-fault file count room r (found .0) (found .1 .1 .0)
 
     go : (answer : Reading) → readFile file ≡ answer → Refuses (fileHas file) (refusalInReading (readFile file)) → Refuses (sheetHas file count room) (refusalInSheet (sheetAnswer file count room))
     go (reading.Refused r) e faults =
@@ -92,10 +87,16 @@ sheet-refuses-faults file count room = go (readFile file) refl (reader-refuses-f
     go (Accepted s n) e faults =
         let readable = readable-accepted file (accepted-readable file s n e .1 .1) in
         subst (λ a. Refuses (sheetHas file count room) (refusalInSheet a)) (sym (behind-decides file count room (sizesIn file) (entriesIn file) readable))
-        (behind (first (checksBehind (sizesIn file) (scheduleIn file) count room)) refl (subst (λ a. Refuses (fileHas file) (refusalInReading a)) e faults))
+        (behind (first (checksAfterReading (sizesIn file) (scheduleIn file) count room)) refl (subst (λ a. Refuses (fileHas file) (refusalInReading a)) e faults))
 
 pub refused-sheet-untouched : RefusedSheetUntouched
 refused-sheet-untouched file count buffer r e = ap (bufferIf (sheetOf count (scheduleIn file) (outcomesIn file)) buffer) e
+
+pub beyond-untouched : BeyondUntouched
+beyond-untouched file count buffer n written =
+    let new = sheetOf count (scheduleIn file) (outcomesIn file) in
+    let long : length new ≡ n = length-sheetOf count (scheduleIn file) (outcomesIn file) ∙ written-length file count (length buffer) n written in
+    ap (λ a. drop n (bufferIf new buffer a)) written ∙ drop-at new (drop (0 + length new) buffer) n long ∙ ap (λ k. drop k buffer) (zero-add (length new) ∙ long)
 
 -- what `share_sheet` promises, of the answer that it hands back and of the buffer
 pub sheet-promises : (file : List ℕ) (count : ℕ) (buffer : List ℕ) (answer : Sheet) (after : List ℕ) → answer ≡ sheetAnswer file count (length buffer) → after ≡ sheetAfter file count buffer

@@ -1,7 +1,7 @@
 -- What a sheet tells that is written: its bytes are the shares, and by demand 3 each TASK has one of its own.
 use mathlib.Core.Path.{_≡_, refl, ap, sym, _∙_, subst}
 use mathlib.Core.Bool.{true, _&&_}
-use mathlib.Core.List.{List, [], _∷_, _++_, append-nil, map}
+use mathlib.Core.List.{List, [], _∷_, _++_, append-nil}
 use Prim.Native.Nat.{ℕ, zero, suc, _+_, _-_, _≤_, _<_}
 use native.Mathlib.Omega.{arith}
 use lib.ListN.{length, drop, getD, List·getD-append, replicate, take}
@@ -22,8 +22,8 @@ use Rattle.schedule.proofs.Laws.Reader.{readable-accepted}
 use Rattle.schedule.proofs.Laws.Run.{outcomes-counted, party-there, schedule-length}
 use Rattle.schedule.proofs.Laws.Trace.{lineIn-written}
 use Rattle.share_sheet.specs.Types.{Drain, Entry, Moved, Outcome, Task}
-use Rattle.share_sheet.specs.Given.{EverySheetTells, TaskAt, Tells, shareIn}
-use Rattle.share_sheet.specs.Sheet.{Share, blocks, bufferIf, givingUpTo, shareBy, shareOf, sheetLayout, sheetOf}
+use Rattle.share_sheet.specs.Given.{EverySheetTells, TaskAt, SheetFacts, shareIn}
+use Rattle.share_sheet.specs.Sheet.{Share, blocks, bufferIf, giving, shareBy, shareOf, sheetLayout, sheetOf}
 use Rattle.share_sheet.proofs.Laws.Given.{block-values-fit, gives-task, task-gives, task-is-block, task-once, task-stored}
 use Rattle.share_sheet.proofs.Laws.Shares.{first-giving, none-giving}
 use Rattle.share_sheet.proofs.Laws.Sheet.{Sheeted, blocks-below, entries, length-blocks, parties, parties-fit, written-sheeted}
@@ -83,7 +83,7 @@ module _ (file : List ℕ) (count room : ℕ) (made : Sheeted file count room) w
   -- ── What stands in the bytes ──────────────────────────────────────────────────────────────────────────────────────────────
 
   -- an entry is a number of four bytes
-  entry-fits : (b : ℕ) (l : List ℕ) → givingUpTo (length os) b os ≡ l → shareBy es l .entry < 4294967296
+  entry-fits : (b : ℕ) (l : List ℕ) → giving b os ≡ l → shareBy es l .entry < 4294967296
   entry-fits b [] e = omega arith
   entry-fits b (at ∷ l) e = omega (arith, first-giving es os (length os) b at l e .0, long-os, long-es, short)
 
@@ -131,30 +131,38 @@ module _ (file : List ℕ) (count room : ℕ) (made : Sheeted file count room) w
 
   -- of a block that was answered, the entry and its party
   share-of-task : (at block : ℕ) → TaskAt file at block → shareOf es os block ≡ record { party = partyNumber (getD es at Drain); entry = at }
-  share-of-task at block task = go (givingUpTo (length os) block os) refl
+  share-of-task at block task = go (giving block os) refl
     where
       told : (at < length es) × (getD os at Moved ≡ Task block)
       told = task-told at block task
 
-      go : (l : List ℕ) → givingUpTo (length os) block os ≡ l → shareBy es l ≡ record { party = partyNumber (getD es at Drain); entry = at }
+      go : (l : List ℕ) → giving block os ≡ l → shareBy es l ≡ record { party = partyNumber (getD es at Drain); entry = at }
       go [] none = absurd (none-giving es os (length os) block none at (omega (arith, told .0, long-es, long-os)) (task-gives block (getD os at Moved) (told .1)))
       go (other ∷ l) first =
           let found = first-giving es os (length os) block other l first in
           let same = once other at block (tells-task other block (found .0) (gives-task block (getD os other Moved) (found .1))) task in
           ap (λ k. record { party = partyNumber (getD es k Drain); entry = k }) same
 
+  -- of one that has no party there is no entry
+  none-no-entry : (block : ℕ) → shareOf es os block .party ≡ 255 → shareOf es os block .entry ≡ 0
+  none-no-entry block none = go (giving block os) none
+    where
+      go : (l : List ℕ) → shareBy es l .party ≡ 255 → shareBy es l .entry ≡ 0
+      go [] none = refl
+      go (at ∷ l) none = absurd (omega (arith, party-most at, none))
+
   -- a block with a party was answered by the entry that is named
   task-of-share : (block : ℕ) → (shareOf es os block .party ≡ 255 → ⊥) → TaskAt file (shareOf es os block .entry) block × (partyNumber (getD es (shareOf es os block .entry) Drain) ≡ shareOf es os block .party)
-  task-of-share block some = go (givingUpTo (length os) block os) refl some
+  task-of-share block some = go (giving block os) refl some
     where
-      go : (l : List ℕ) → givingUpTo (length os) block os ≡ l → (shareBy es l .party ≡ 255 → ⊥) → TaskAt file (shareBy es l .entry) block × (partyNumber (getD es (shareBy es l .entry) Drain) ≡ shareBy es l .party)
+      go : (l : List ℕ) → giving block os ≡ l → (shareBy es l .party ≡ 255 → ⊥) → TaskAt file (shareBy es l .entry) block × (partyNumber (getD es (shareBy es l .entry) Drain) ≡ shareBy es l .party)
       go [] none some = absurd (some refl)
       go (at ∷ l) first some =
           let found = first-giving es os (length os) block at l first in
           (tells-task at block (found .0) (gives-task block (getD os at Moved) (found .1)), refl)
 
   -- all of it, of the sheet's bytes with others behind them
-  tells : (rest : List ℕ) → Tells file count (sheetOf count es os ++ rest)
+  tells : (rest : List ℕ) → SheetFacts file count (sheetOf count es os ++ rest)
   tells rest =
       record {
         counts = ap (λ l. getD l 0 0) (numbers rest);
@@ -163,6 +171,8 @@ module _ (file : List ℕ) (count room : ℕ) (made : Sheeted file count room) w
         not-given = λ block within none at task.
             let party = sym none ∙ ap (λ h. h .party) (share-told rest block within ∙ share-of-task at block task) in
             omega (arith, party, party-most at);
+        no-entry = λ block within none.
+            ap (λ h. h .entry) (share-told rest block within) ∙ none-no-entry block (sym (ap (λ h. h .party) (share-told rest block within)) ∙ none);
         given = λ block within some. subst (Given block) (sym (share-told rest block within)) (task-of-share block (λ none. some (ap (λ h. h .party) (share-told rest block within) ∙ none)));
         put-before = λ block within some.
             let named = task-of-share block (λ none. some (ap (λ h. h .party) (share-told rest block within) ∙ none)) .0 in
@@ -182,4 +192,4 @@ module _ (file : List ℕ) (count room : ℕ) (made : Sheeted file count room) w
 pub every-sheet-tells : EverySheetTells
 every-sheet-tells file count buffer n written =
     let made = written-sheeted file count (length buffer) n written in
-    subst (Tells file count) (sym (ap (bufferIf (sheetOf count (scheduleIn file) (outcomesIn file)) buffer) written)) (tells file count (length buffer) made (drop (0 + length (sheetOf count (scheduleIn file) (outcomesIn file))) buffer))
+    subst (SheetFacts file count) (sym (ap (bufferIf (sheetOf count (scheduleIn file) (outcomesIn file)) buffer) written)) (tells file count (length buffer) made (drop (0 + length (sheetOf count (scheduleIn file) (outcomesIn file))) buffer))

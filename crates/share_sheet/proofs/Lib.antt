@@ -1,4 +1,5 @@
 pub mod Laws
 pub mod Given
+pub mod FirstBlock
 pub mod Faults
 pub mod Sheets

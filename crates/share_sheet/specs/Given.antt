@@ -19,21 +19,22 @@ pub record TaskAt (file : List ℕ) (at block : ℕ) : Type 0 where
   pub there : at < entriesIn file
   pub line : lineIn (entriesIn file) (traceOf (outcomesIn file)) at ≡ record { number = 17; value = block }
 
--- what the bytes of a sheet of so many blocks say of a block: the number behind the count that has the block's place, and the one that is as many places further
+-- what the bytes of a sheet of so many blocks say of a block: of the numbers in them 0 is the count, b is the party of block b, and count + b its entry
 abbrev pub shareIn : ℕ → List ℕ → ℕ → Share
 shareIn count sheet block = record { party = getD (decode (sheetLayout count) sheet) block 0; entry = getD (decode (sheetLayout count) sheet) (count + block) 0 }
 
--- A schedule's file, the blocks' count, and the bytes of a sheet.
-pub record Tells (file : List ℕ) (count : ℕ) (sheet : List ℕ) : Type 0 where
+-- what holds of a sheet's bytes, for a schedule file and a count of blocks
+pub record SheetFacts (file : List ℕ) (count : ℕ) (sheet : List ℕ) : Type 0 where
   -- the sheet begins with the count
   pub counts : getD (decode (sheetLayout count) sheet) 0 0 ≡ count
   -- every TASK in the trace stands in the sheet: its number is a block, of which the sheet has its party and its entry
   pub stands : (at block : ℕ) → TaskAt file at block
       → (within 1 count block ≡ true) × (shareIn count sheet block ≡ record { party = partyNumber (getD (scheduleIn file) at Drain); entry = at })
-  -- no two entries claim one place of the sheet, so that each block has one party at most
+  -- no two entries claim one place of the sheet, so that each block that was stored has one party at most
   pub once : (at other block : ℕ) → TaskAt file at block → TaskAt file other block → at ≡ other
-  -- a block that the sheet calls not given was never answered
+  -- a block that the sheet calls not given was never answered, and has no entry
   pub not-given : (block : ℕ) → within 1 count block ≡ true → shareIn count sheet block .party ≡ 255 → (at : ℕ) → TaskAt file at block → ⊥
+  pub no-entry : (block : ℕ) → within 1 count block ≡ true → shareIn count sheet block .party ≡ 255 → shareIn count sheet block .entry ≡ 0
   -- a block with a party: the entry that the sheet names answered TASK with it, and it is that party's ..
   pub given : (block : ℕ) → within 1 count block ≡ true → (shareIn count sheet block .party ≡ 255 → ⊥)
       → TaskAt file (shareIn count sheet block .entry) block × (partyNumber (getD (scheduleIn file) (shareIn count sheet block .entry) Drain) ≡ shareIn count sheet block .party)
@@ -43,7 +44,7 @@ pub record Tells (file : List ℕ) (count : ℕ) (sheet : List ℕ) : Type 0 whe
 
 -- so it is wherever the answer is that a sheet was written
 abbrev pub SheetTells : List ℕ → ℕ → List ℕ → Sheet → Type 0
-SheetTells file count sheet answer = (n : ℕ) → answer ≡ Written n → Tells file count sheet
+SheetTells file count sheet answer = (n : ℕ) → answer ≡ Written n → SheetFacts file count sheet
 
 -- Proved in `proofs/Given.antt`.
 abbrev pub EverySheetTells : Type 0

@@ -1,4 +1,4 @@
--- What the promise about share sheets says. "02" is the list of change requests, of which it is the second; names in quotation marks are places of the scope paper, 01. The files stand in reading order; `sheetAnswer` in `Sheet` is what `share_sheet` answers, and
+-- What the promise about share sheets says. "02" is the list of change requests; share sheets are its request 2. The files stand in reading order; `sheetAnswer` in `Sheet` is what `share_sheet` answers, and
 -- `sheetAfter` what lent memory holds afterwards.
 --
 -- files that are read, and their runs   Reader, Run, of `schedule`
@@ -7,11 +7,11 @@
 -- a sheet, its bytes, its checks        Sheet
 -- what is refused, and for what         Faults
 -- what is true of every sheet           Given
--- how it is made                        Notes
+-- how it is filled                      Filling
 -- sheets, as a table                    Sheets
 pub mod Types
 pub mod Sheet
 pub mod Faults
 pub mod Given
-pub mod Notes
+pub mod Filling
 pub mod Sheets

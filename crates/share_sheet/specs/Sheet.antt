@@ -1,4 +1,5 @@
--- The share sheet of a design: which party planned which block. Renders request 2, in 02. A sheet says of each block what the run's outcomes say of it; that no two entries say something of one block is a theorem (`Given`).
+-- The share sheet of a design: which party planned which block. Renders request 2, in 02. A sheet says of each block what the run's outcomes say of it; that no two entries answer TASK with the same block is a theorem (`Given`).
+use mathlib.Core.Path.{_≡_}
 use mathlib.Core.Bool.{Bool, false, cond, not, _&&_, _||_}
 use mathlib.Core.List.{List, [], _∷_, _++_, map}
 use Prim.Native.Nat.{ℕ, _+_, _*_}
@@ -14,7 +15,7 @@ use Rattle.schedule.specs.Check.{failIf, first}
 use Rattle.schedule.specs.Format.{arrays, encode, sizesIn}
 use Rattle.schedule.specs.Reader.{readingChecks}
 use Rattle.schedule.specs.Run.{outcomesIn, scheduleIn}
-use Rattle.share_sheet.specs.Types.{Block, Check, Drain, Entry, Failed, Margin, Moved, Outcome, Passed, Room, Sheet, Size, Sizes, Written}
+use Rattle.share_sheet.specs.Types.{BeginPut, BeginSteal, BeginTake, Block, Check, ClientStore, Drain, Entry, Failed, Margin, Moved, Outcome, Passed, Room, Sheet, Size, Sizes, ThiefStep, WorkerStep, Written}
 use Rattle.share_sheet.specs.declared.sheet.Sheet.the-variants as sheet
 
 -- ── What a sheet says of a block ────────────────────────────────────────────────────────────────────────────────────────────
@@ -23,9 +24,9 @@ use Rattle.share_sheet.specs.declared.sheet.Sheet.the-variants as sheet
 abbrev pub gives : ℕ → Outcome → Bool
 gives block o = eqb (numberOf o) 17 && eqb (valueOf o) block
 
--- of the first so many entries, those that answered TASK with the block
-abbrev pub givingUpTo : ℕ → ℕ → List Outcome → List ℕ
-givingUpTo n block os = concatMap (λ at. cond (gives block (getD os at Moved)) (at ∷ []) []) (range n)
+-- the entries that answered TASK with the block, in their order
+abbrev pub giving : ℕ → List Outcome → List ℕ
+giving block os = concatMap (λ at. cond (gives block (getD os at Moved)) (at ∷ []) []) (range (length os))
 
 pub record Share : Type 0 where
   -- 0 for the worker and i + 1 for thief i; 255 for a block that was not given
@@ -33,14 +34,14 @@ pub record Share : Type 0 where
   -- the entry that answered TASK; 0 for a block that was not given
   pub entry : ℕ
 
--- by the entries that answered TASK with the block: there is one of them at most, or the first counts
+-- the share, from the entries that answered TASK with the block. Of a sheet that is written there is one at most (`Given`); else the first counts.
 abbrev pub shareBy : List Entry → List ℕ → Share
 shareBy es [] = record { party = 255; entry = 0 }
 shareBy es (at ∷ l) = record { party = partyNumber (getD es at Drain); entry = at }
 
 -- the share of a block in a run, by its entries and their outcomes
 abbrev pub shareOf : List Entry → List Outcome → ℕ → Share
-shareOf es os block = shareBy es (givingUpTo (length os) block os)
+shareOf es os block = shareBy es (giving block os)
 
 -- ── Its bytes ───────────────────────────────────────────────────────────────────────────────────────────────────────────────
 
@@ -52,6 +53,7 @@ blocks count = rangeFrom 1 count
 abbrev pub sheetLayout : ℕ → List ℕ
 sheetLayout count = 1 ∷ arrays count
 
+-- how many bytes it has
 abbrev pub sheetLength : ℕ → ℕ
 sheetLength count = 1 + 5 * count
 
@@ -61,10 +63,15 @@ sheetOf count es os =
 
 -- ── Checks ──────────────────────────────────────────────────────────────────────────────────────────────────────────────────
 
--- the number that an entry begins to put, in a list of at most one, is no block's, or one of those used before
-abbrev pub wrongNumber : ℕ → List ℕ → List ℕ → Bool
-wrongNumber count used [] = false
-wrongNumber count used (x ∷ l) = not (within 1 count x) || ltb 0 (occurrences x used)
+-- an entry is a begin put of a number that is no block's, or one of those used before
+abbrev pub wrongPut : ℕ → List ℕ → Entry → Bool
+wrongPut count used Drain = false
+wrongPut count used ClientStore = false
+wrongPut count used (BeginPut x) = not (within 1 count x) || ltb 0 (occurrences x used)
+wrongPut count used BeginTake = false
+wrongPut count used WorkerStep = false
+wrongPut count used (BeginSteal i) = false
+wrongPut count used (ThiefStep i) = false
 
 -- the numbers that the first so many entries begin to put, whatever their outcomes are
 abbrev pub putsUpTo : ℕ → List Entry → List ℕ
@@ -72,15 +79,15 @@ putsUpTo n es = concatMap numberPut (take n es)
 
 -- the entry at a place is a begin put whose operand is 0, above the count or used by an earlier begin put
 abbrev pub wrongBlock : ℕ → List Entry → ℕ → Bool
-wrongBlock count es at = wrongNumber count (putsUpTo at es) (numberPut (getD es at Drain))
+wrongBlock count es at = wrongPut count (putsUpTo at es) (getD es at Drain)
 
 -- all begin puts: the first wrong one decides
 abbrev pub checkBlocks : ℕ → List Entry → Check
 checkBlocks count es = first (map (λ at. failIf (wrongBlock count es at) (Block at)) (range (length es)))
 
--- the checks of a schedule that was read, in their order; SIZE's place for the count is behind those of a file's sizes
-abbrev pub checksBehind : Sizes → List Entry → ℕ → ℕ → List Check
-checksBehind s es count room =
+-- the checks of a schedule that was read, in their order; 7, the count's place for SIZE, follows those of a file's seven sizes
+abbrev pub checksAfterReading : Sizes → List Entry → ℕ → ℕ → List Check
+checksAfterReading s es count room =
     failIf (not (within 1 255 count)) (Size 7)
     ∷ failIf (not (enoughMargin s)) Margin
     ∷ checkBlocks count es
@@ -89,17 +96,17 @@ checksBehind s es count room =
 
 -- all checks, in their order: the reader's come first
 abbrev pub sheetChecks : List ℕ → ℕ → ℕ → List Check
-sheetChecks file count room = readingChecks file ++ checksBehind (sizesIn file) (scheduleIn file) count room
+sheetChecks file count room = readingChecks file ++ checksAfterReading (sizesIn file) (scheduleIn file) count room
 
 -- ── The answer, and the lent buffer ─────────────────────────────────────────────────────────────────────────────────────────
 
-abbrev pub sheetBy : ℕ → Check → Sheet
-sheetBy count Passed = Written (sheetLength count)
-sheetBy count (Failed r) = sheet.Refused r
+abbrev pub answerBy : ℕ → Check → Sheet
+answerBy count Passed = Written (sheetLength count)
+answerBy count (Failed r) = sheet.Refused r
 
 -- the answer for a file, a count and a buffer of so many bytes: how many bytes the sheet has, or the refusal
 abbrev pub sheetAnswer : List ℕ → ℕ → ℕ → Sheet
-sheetAnswer file count room = sheetBy count (first (sheetChecks file count room))
+sheetAnswer file count room = answerBy count (first (sheetChecks file count room))
 
 abbrev pub bufferIf : List ℕ → List ℕ → Sheet → List ℕ
 bufferIf new buffer (Written n) = overwritten 0 new buffer
@@ -108,3 +115,7 @@ bufferIf new buffer (sheet.Refused r) = buffer
 -- what the buffer holds afterwards: the sheet and, beyond it, what it held; if refused, all that it held
 abbrev pub sheetAfter : List ℕ → ℕ → List ℕ → List ℕ
 sheetAfter file count buffer = bufferIf (sheetOf count (scheduleIn file) (outcomesIn file)) buffer (sheetAnswer file count (length buffer))
+
+-- The length that 02 gives as a number is the layout's. Proved in `proofs/Laws/Sheet.antt`.
+abbrev pub SheetLength : Type 0
+SheetLength = (count : ℕ) (es : List Entry) (os : List Outcome) → length (sheetOf count es os) ≡ sheetLength count

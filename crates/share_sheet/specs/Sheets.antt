@@ -9,7 +9,7 @@ use Rattle.terms.specs.Refusal.{refusedBy}
 use Rattle.terms.specs.Sizes.{sized}
 use Rattle.schedule.specs.Edges.{fileWith}
 use Rattle.schedule.specs.Runs.{before, drains, file, put, steal, take as takes}
-use Rattle.share_sheet.specs.Types.{BeginPut, Drain, Entry, Sheet, Sizes, ThiefStep, WorkerStep, Written}
+use Rattle.share_sheet.specs.Types.{BeginPut, BeginTake, ClientStore, Drain, Entry, Sheet, Sizes, ThiefStep, WorkerStep, Written}
 use Rattle.share_sheet.specs.declared.sheet.Sheet.the-variants as sheet
 use Rattle.share_sheet.specs.Sheet.{sheetAfter, sheetAnswer}
 
@@ -57,13 +57,21 @@ designSheet =
 abbrev pub one : List Entry
 one = put 1 ++ drains ++ takes
 
+-- a put with a store buffer of 1: each store is drained as it is made
+abbrev pub putByOne : ℕ → List Entry
+putByOne x = BeginPut x ∷ WorkerStep ∷ WorkerStep ∷ Drain ∷ WorkerStep ∷ Drain ∷ []
+
+-- a take that finds no block, drained where needed
+abbrev pub takeOfNothing : List Entry
+takeOfNothing = BeginTake ∷ WorkerStep ∷ Drain ∷ replicate 4 WorkerStep ++ (Drain ∷ WorkerStep ∷ [])
+
 -- ── The table ───────────────────────────────────────────────────────────────────────────────────────────────────────────────
 
 abbrev pub written : List Row
 written =
     writes (plain design) 5 26 26 designSheet
     ∷ writes (plain design) 5 29 26 (designSheet ++ before 3)
-    -- one entry less, and the last block is not answered yet
+    -- one entry fewer: block 4 is not answered yet
     ∷ writes (plain (take 41 design)) 5 26 26
     ((5 ∷ []) ++ (255 ∷ 255 ∷ 1 ∷ 255 ∷ 2 ∷ []) ++ (0 ∷ 0 ∷ 0 ∷ 0 ∷ 0 ∷ 0 ∷ 0 ∷ 0 ∷ 37 ∷ 0 ∷ 0 ∷ 0 ∷ 0 ∷ 0 ∷ 0 ∷ 0 ∷ 30 ∷ 0 ∷ 0 ∷ 0 ∷ []))
     -- an entry whose number has two bytes, behind entries that wait
@@ -73,9 +81,16 @@ written =
     ∷ writes (plain one) 255 1276 1276 ((255 ∷ []) ++ (0 ∷ replicate 254 255) ++ (9 ∷ replicate 1019 0))
     ∷ writes (plain (BeginPut 255 ∷ [])) 255 1276 1276 ((255 ∷ []) ++ replicate 255 255 ++ replicate 1020 0)
     ∷ writes (file (sized 8 2 0 0 2 0) one) 1 6 6 (1 ∷ 0 ∷ 9 ∷ 0 ∷ 0 ∷ 0 ∷ [])
-    -- a block that was put while the queue was full is given to nobody; ABORT and EMPTY give nothing; operands that are thieves are no blocks
+    -- the needed margin below the buffer size, and a margin above the needed one
+    ∷ writes (file (sized 8 33 1 17 1 0) one) 1 6 6 (1 ∷ 0 ∷ 9 ∷ 0 ∷ 0 ∷ 0 ∷ [])
+    ∷ writes (file (sized 8 33 1 18 1 0) one) 1 6 6 (1 ∷ 0 ∷ 9 ∷ 0 ∷ 0 ∷ 0 ∷ [])
+    -- the eighth thief; indices that start elsewhere, client stores between
+    ∷ writes (file (sized 8 1 0 1 8 7) (putByOne 1 ++ (ClientStore ∷ Drain ∷ []) ++ putByOne 2 ++ steal 7)) 2 11 11
+    ((2 ∷ []) ++ (8 ∷ 255 ∷ []) ++ (20 ∷ 0 ∷ 0 ∷ 0 ∷ 0 ∷ 0 ∷ 0 ∷ 0 ∷ []))
+    -- a block whose put was answered FULL or END is given to nobody; ABORT and EMPTY give nothing; operands that are thieves are no blocks
     ∷ writes (file (sized 2 2 0 2 2 0) (put 1 ++ drains ++ (BeginPut 2 ∷ WorkerStep ∷ []) ++ steal 1 ++ takes)) 2 11 11 ((2 ∷ []) ++ (0 ∷ 255 ∷ []) ++ (18 ∷ 0 ∷ 0 ∷ 0 ∷ 0 ∷ 0 ∷ 0 ∷ 0 ∷ []))
-    ∷ writes (plain (steal 0)) 1 6 6 (1 ∷ 255 ∷ 0 ∷ 0 ∷ 0 ∷ 0 ∷ [])
+    ∷ writes (file (sized 8 2 0 2 2 2147483647) (BeginPut 1 ∷ WorkerStep ∷ [])) 1 6 6 (1 ∷ 255 ∷ 0 ∷ 0 ∷ 0 ∷ 0 ∷ [])
+    ∷ writes (plain (steal 0 ++ takeOfNothing)) 1 6 6 (1 ∷ 255 ∷ 0 ∷ 0 ∷ 0 ∷ 0 ∷ [])
     ∷ []
 
 abbrev pub declined : List Row
@@ -99,7 +114,11 @@ declined =
     ∷ declines (plain (put 1 ++ put 2)) 1 6 10 4
     ∷ declines (plain (put 257)) 255 1276 10 0
     ∷ declines (plain (one ++ one)) 1 6 10 10
-    -- whatever their outcomes: begun while a put runs, or put while the queue is full
+    ∷ declines (plain (BeginPut 1 ∷ BeginPut 2 ∷ BeginPut 1 ∷ [])) 2 11 10 2
+    -- whatever their outcomes: begun while a put runs, answered FULL, answered END
+    ∷ declines (plain (BeginPut 1 ∷ BeginPut 2 ∷ [])) 1 6 10 1
+    ∷ declines (plain (BeginPut 1 ∷ BeginPut 2 ∷ WorkerStep ∷ WorkerStep ∷ WorkerStep ∷ BeginPut 2 ∷ [])) 2 11 10 5
+    ∷ declines (file (sized 8 2 0 2 2 2147483647) (BeginPut 1 ∷ WorkerStep ∷ BeginPut 1 ∷ [])) 1 6 10 2
     ∷ declines (plain (BeginPut 1 ∷ BeginPut 1 ∷ [])) 1 6 10 1
     ∷ declines (plain (BeginPut 1 ∷ BeginPut 2 ∷ BeginPut 2 ∷ [])) 2 11 10 2
     ∷ declines (file (sized 2 2 0 2 1 0) (put 1 ++ drains ++ (BeginPut 2 ∷ WorkerStep ∷ BeginPut 2 ∷ []))) 2 11 10 8
@@ -108,6 +127,7 @@ declined =
     ∷ declines (plain (BeginPut 1 ∷ BeginPut 1 ∷ BeginPut 0 ∷ [])) 5 26 10 1
     -- the order: the file's own faults, the count, the margin, the blocks, the room
     ∷ declines [] 0 0 2 0
+    ∷ declines (plain [] ++ (0 ∷ [])) 0 0 2 0
     ∷ declines (file (sized 8 2 0 1 9 0) (BeginPut 0 ∷ [])) 0 0 1 4
     ∷ declines (fileWith short (2 ∷ 7 ∷ []) (0 ∷ 0 ∷ [])) 0 0 3 1
     ∷ declines (file short (BeginPut 0 ∷ ThiefStep 2 ∷ [])) 0 0 4 1

@@ -5,7 +5,7 @@ ghost use lib.ListN.{length};
 ghost use Rattle.properties.specs.ExactlyOnce.{numberPut};
 ghost use Rattle.schedule.specs.Format.{wordsIn};
 ghost use Rattle.schedule.specs.Run.{entriesOf};
-ghost use Rattle.share_sheet.specs.Notes.{marked, wrongByMarks};
+ghost use Rattle.share_sheet.specs.Filling.{marked, wrongByMarks};
 ghost use Rattle.share_sheet.specs.Sheet.{checkBlocks};
 use schedule::Check;
 use schedule::entry_at;

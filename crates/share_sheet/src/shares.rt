@@ -6,7 +6,7 @@ ghost use lib.ListN.{length, replicate};
 ghost use Rattle.terms.specs.Sizes.{within};
 ghost use Rattle.schedule.specs.Format.{wordsIn};
 ghost use Rattle.schedule.specs.Run.{entriesOf, outcomesFrom};
-ghost use Rattle.share_sheet.specs.Notes.{GivenOnce, PartiesFit, TraceOf, noted};
+ghost use Rattle.share_sheet.specs.Filling.{GivenOnce, PartiesFit, TraceOf, noted};
 ghost use Rattle.share_sheet.specs.Sheet.{blocks, shareOf};
 use number::word_at;
 use schedule::entry_at;

@@ -11,7 +11,7 @@ ghost use Rattle.schedule.specs.Format.{wordsIn};
 ghost use Rattle.schedule.specs.Run.{entriesOf, outcomesFrom};
 ghost use Rattle.share_sheet.specs.Faults.{refusalInSheet, sheetHas};
 ghost use Rattle.share_sheet.specs.Given.{SheetTells};
-ghost use Rattle.share_sheet.specs.Sheet.{checksBehind, sheetAfter, sheetAnswer, sheetOf};
+ghost use Rattle.share_sheet.specs.Sheet.{checksAfterReading, sheetAfter, sheetAnswer, sheetOf};
 ghost use Rattle.share_sheet.specs.Types.{Passed};
 use crate::blocks::check_blocks;
 use crate::shares::note_shares;
@@ -42,7 +42,7 @@ pub enum Sheet {
 
 // Whether a schedule that was read has a sheet of so many blocks, and the sheet fits into so many bytes.
 fn check_sheet(sizes: Sizes, kinds: &[u8], operands: &[u8], count: u32, room: usize) -> Check
-    ensures { λ r. ⌜ r ≡ first (checksBehind sizes (entriesOf sizes (now (kinds .entry)) (wordsIn (now (operands .entry)))) count room) ⌝ }
+    ensures { λ r. ⌜ r ≡ first (checksAfterReading sizes (entriesOf sizes (now (kinds .entry)) (wordsIn (now (operands .entry)))) count room) ⌝ }
 {
     if !within(1, 255, count) {
         return Check::Failed(Refusal::Size(7));
@@ -63,7 +63,7 @@ fn check_sheet(sizes: Sizes, kinds: &[u8], operands: &[u8], count: u32, room: us
 // Runs a schedule that has passed every check, into a trace of its own, and puts the sheet.
 fn put_sheet(sheet: &mut [u8], sizes: Sizes, kinds: &[u8], operands: &[u8], count: usize)
     requires { ⌜ (sizesInRange sizes ≡ true) × (length (now kinds) ≤ 4096) × (checkEntries sizes (now kinds) (wordsIn (now operands)) ≡ Passed) ⌝ }
-    requires { ⌜ first (checksBehind sizes (entriesOf sizes (now kinds) (wordsIn (now operands))) count (length (now sheet))) ≡ Passed ⌝ }
+    requires { ⌜ first (checksAfterReading sizes (entriesOf sizes (now kinds) (wordsIn (now operands))) count (length (now sheet))) ≡ Passed ⌝ }
     ensures { λ _. ⌜ now (sheet .exit) ≡ overwritten 0 (sheetOf count (entriesOf sizes (now (kinds .entry)) (wordsIn (now (operands .entry)))) (outcomesFrom sizes (now (kinds .entry)) (wordsIn (now (operands .entry))))) (now (sheet .entry)) ⌝ }
 {
     let mut trace = [0; LONGEST_TRACE];

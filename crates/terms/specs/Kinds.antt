@@ -27,7 +27,7 @@ operandOf WorkerStep = 0
 operandOf (BeginSteal thief) = thief
 operandOf (ThiefStep thief) = thief
 
--- whose entry it is, parties counted: the worker is 0, and thief i is i + 1; a drain is the worker's
+-- whose entry it is, as 02's request 2 numbers the parties: 0 is the worker, and i + 1 is thief i; a drain is the worker's
 abbrev pub partyNumber : Entry → ℕ
 partyNumber Drain = 0
 partyNumber ClientStore = 0

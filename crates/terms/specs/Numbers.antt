@@ -4,7 +4,7 @@ use mathlib.Core.Bool.{Bool, true, false, not, _&&_}
 use mathlib.Core.List.{List, [], _∷_}
 use Prim.Native.Nat.{ℕ}
 use lib.Dec.{eqb}
-use Rattle.terms.specs.Types.{Abort, Allowed, AllInRange, BeginPut, BeginSteal, BeginTake, Block, ClientStore, Drain, Early, Empty, End, Entry, Full, Kind, Margin, Meaning, Moved, Outcome, OutOfRange, Place, Refusal, Room, Short, Size, SizeCheck, Sizes, Stored, Task, ThiefStep, Wait, Who, WorkerStep}
+use Rattle.terms.specs.Types.{Abort, Allowed, BeginPut, BeginSteal, BeginTake, Block, ClientStore, Drain, Early, Empty, End, Entry, Full, Kind, Margin, Meaning, Moved, Outcome, Place, Refusal, Room, Short, Size, Sizes, Stored, Task, ThiefStep, Wait, Who, WorkerStep}
 use Rattle.terms.specs.declared.kinds.Meaning.the-variants as meaning
 use Rattle.terms.specs.Outcome.{isAnswer, isAnswerNumber, isRefusal, numberOf, valueOf}
 use Rattle.terms.specs.Refusal.{refusedBy}

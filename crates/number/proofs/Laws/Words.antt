@@ -1,6 +1,5 @@
 -- Laws of numbers of four bytes: which bytes they are, what is read or put where all four are there, and several that are put one behind the other.
 use mathlib.Core.Path.{_≡_, refl, ap, sym, _∙_}
-use mathlib.Core.Bool.{true, false}
 use mathlib.Core.List.{List, [], _∷_, _++_}
 use Prim.Native.Nat.{ℕ, _+_, _*_, _≤_, _<_}
 use native.Mathlib.Nat.{add-zero}
@@ -11,7 +10,7 @@ use lib.Seq.{getD-drop, length-take-le, take-suc}
 use borrow.Author.Tests.{le-leb, lt-leb}
 use Rattle.terms.proofs.Laws.Tests.{by-test}
 use Rattle.terms.proofs.Laws.Sums.{concatMap-append}
-use Rattle.number.specs.Number.{bytesPut, fits, littleEndian, ofBytes, overwritten, wordAt, wordBytes, wordPut}
+use Rattle.number.specs.Number.{bytesPut, littleEndian, ofBytes, overwritten, wordAt, wordBytes, wordPut}
 use Rattle.number.proofs.Laws.Number.{length-littleEndian}
 use Rattle.number.proofs.Laws.Overwritten.{length-overwritten, overwritten-behind}
 

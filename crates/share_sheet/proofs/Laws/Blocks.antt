@@ -8,7 +8,7 @@ use native.Mathlib.Omega.{arith}
 use lib.Dec.{eqb, ltb}
 use lib.ListN.{length, getD, length-replicate, length-set, replicate, set, take}
 use lib.Seq.{take-suc}
-use borrow.Author.Tests.{eqb-false, eqb-true, le-ltb, lt-ltb}
+use borrow.Author.Tests.{eqb-false, eqb-true, lt-ltb}
 use Rattle.terms.specs.Lists.{concatMap, occurrences, range}
 use Rattle.terms.specs.Sizes.{within}
 use Rattle.terms.proofs.Laws.Lists.{getD-set}
@@ -18,8 +18,8 @@ use Rattle.properties.specs.ExactlyOnce.{numberPut}
 use Rattle.schedule.specs.Check.{failIf, first}
 use Rattle.schedule.proofs.Laws.Check.{first-more, first-stops}
 use Rattle.share_sheet.specs.Types.{BeginPut, BeginSteal, BeginTake, Block, Check, ClientStore, Drain, Entry, Failed, Passed, ThiefStep, WorkerStep}
-use Rattle.share_sheet.specs.Notes.{marked, wrongByMarks}
-use Rattle.share_sheet.specs.Sheet.{checkBlocks, putsUpTo, wrongBlock, wrongNumber}
+use Rattle.share_sheet.specs.Filling.{marked, wrongByMarks}
+use Rattle.share_sheet.specs.Sheet.{checkBlocks, putsUpTo, wrongBlock, wrongPut}
 
 -- one entry more
 pub puts-more : (es : List Entry) (n : ℕ) → n < length es → putsUpTo (n + 1) es ≡ putsUpTo n es ++ numberPut (getD es n Drain)
@@ -47,9 +47,14 @@ marks-none = record { long = length-replicate 256 false; each = λ k small. none
 
 module _ (count : ℕ) (few : count ≤ 255) (marks : List Bool) (used : List ℕ) (m : Marks marks used) where
   -- a number is wrong by the marks exactly if it is wrong
-  pub wrong-marked : (l : List ℕ) → wrongByMarks count marks l ≡ wrongNumber count used l
-  wrong-marked [] = refl
-  wrong-marked (x ∷ l) = go (within 1 count x) refl
+  pub wrong-marked : (e : Entry) → wrongByMarks count marks (numberPut e) ≡ wrongPut count used e
+  wrong-marked Drain = refl
+  wrong-marked ClientStore = refl
+  wrong-marked BeginTake = refl
+  wrong-marked WorkerStep = refl
+  wrong-marked (BeginSteal i) = refl
+  wrong-marked (ThiefStep i) = refl
+  wrong-marked (BeginPut x) = go (within 1 count x) refl
     where
       go : (inside : Bool) → within 1 count x ≡ inside → (not inside || getD marks x false) ≡ (not inside || ltb 0 (occurrences x used))
       go true p = m .each x (omega (arith, within-bounds 1 count x p .1))
@@ -97,7 +102,7 @@ module _ (count : ℕ) (es : List Entry) where
   module _ (few : count ≤ 255) (marks : List Bool) (at : ℕ) (there : at < length es) (so-far : RightBefore marks at) (e : Entry) (entry : e ≡ getD es at Drain)
       (wrong : Bool) (tested : wrong ≡ wrongByMarks count marks (numberPut e)) where
     found : wrong ≡ wrongBlock count es at
-    found = tested ∙ wrong-marked count few marks (putsUpTo at es) (so-far .marks-then) (numberPut e) ∙ ap (λ f. wrongNumber count (putsUpTo at es) (numberPut f)) entry
+    found = tested ∙ wrong-marked count few marks (putsUpTo at es) (so-far .marks-then) e ∙ ap (wrongPut count (putsUpTo at es)) entry
 
     pub wrong-decides : wrong ≡ true → Failed (Block at) ≡ checkBlocks count es
     wrong-decides is = sym (first-stops check (length es) at (Block at) there (so-far .right) (ap (λ b. failIf b (Block at)) (sym found ∙ is)))

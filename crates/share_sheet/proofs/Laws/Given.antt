@@ -3,6 +3,7 @@ use mathlib.Core.Path.{_≡_, refl, ap, sym, _∙_, subst}
 use mathlib.Core.Bool.{Bool, true, false, cond, not, _||_, false≢true}
 use mathlib.Core.List.{List, [], _∷_, _++_, append-nil, map}
 use Prim.Native.Nat.{ℕ, zero, suc, _+_, _≤_, _<_}
+use native.Mathlib.Numerals.{add-one}
 use native.Mathlib.Omega.{arith}
 use lib.Dec.{eqb, ltb}
 use lib.ListN.{length, getD, take, length-take, List·getD-eq-default, List·getD-map}
@@ -13,7 +14,7 @@ use Rattle.terms.specs.Outcome.{isAnswer, isMoved, isStored, valueOf}
 use Rattle.terms.specs.Sizes.{enoughMargin, sizesInRange, within}
 use Rattle.terms.proofs.Laws.Lists.{take-whole}
 use Rattle.terms.proofs.Laws.Sizes.{within-bounds}
-use Rattle.terms.proofs.Laws.Sums.{adds-concatMap, adds-occurrences, adds-take-drop, concatMap-append}
+use Rattle.terms.proofs.Laws.Sums.{adds-concatMap, adds-occurrences, adds-take-drop}
 use Rattle.terms.proofs.Laws.Tests.{by-test, decide}
 use Rattle.claim.specs.Calls.{taskIn}
 use Rattle.machine.specs.declared.machine.Machine.{Machine}
@@ -28,8 +29,9 @@ use Rattle.schedule.proofs.Laws.Check.{failIf-passed, range-passed}
 use Rattle.schedule.proofs.Laws.Run.{length-outcomesOf}
 use Rattle.share_sheet.specs.Types.{BeginPut, BeginSteal, BeginTake, Block, ClientStore, Drain, Entry, Passed, Sizes, ThiefStep, WorkerStep}
 use Rattle.share_sheet.specs.Types.{Outcome, Moved, Place, Early, Wait, Stored, Task, Empty, Abort, Full, End}
-use Rattle.share_sheet.specs.Notes.{GivenOnce}
-use Rattle.share_sheet.specs.Sheet.{checkBlocks, gives, putsUpTo, wrongBlock, wrongNumber}
+use Rattle.share_sheet.specs.Filling.{GivenOnce}
+use Rattle.share_sheet.specs.Sheet.{checkBlocks, gives, putsUpTo, wrongBlock, wrongPut}
+use Rattle.share_sheet.proofs.Laws.Blocks.{puts-more}
 
 -- an outcome gives a block exactly if it is TASK with it
 pub gives-task : (x : ℕ) (o : Outcome) → gives x o ≡ true → o ≡ Task x
@@ -100,7 +102,7 @@ module _ (s : Sizes) (es : List Entry) (count : ℕ) (ranged : sizesInRange s �
   -- what holds of no numbers, and still holds with a block behind that is not among them, holds of all that are put
   module _ (P : List ℕ → Type 0) (none : P []) (one : (used : List ℕ) (x : ℕ) → within 1 count x ≡ true → occurrences x used ≤ 0 → P used → P (used ++ (x ∷ []))) where
     -- one entry more, which puts such a block or nothing
-    with-entry : (used : List ℕ) (e : Entry) → wrongNumber count used (numberPut e) ≡ false → P used → P (used ++ concatMap numberPut (e ∷ []))
+    with-entry : (used : List ℕ) (e : Entry) → wrongPut count used e ≡ false → P used → P (used ++ numberPut e)
     with-entry used Drain fine p = subst P (sym (append-nil used)) p
     with-entry used ClientStore fine p = subst P (sym (append-nil used)) p
     with-entry used (BeginPut x) fine p = let told = right-use (within 1 count x) (ltb 0 (occurrences x used)) fine in one used x (told .0) (ltb-false 0 (occurrences x used) (told .1)) p
@@ -118,8 +120,7 @@ module _ (s : Sizes) (es : List Entry) (count : ℕ) (ranged : sizesInRange s �
         go true e p =
             let there = ltb-true n (length es) e in
             let fine = failIf-passed (wrongBlock count es n) (Block n) (range-passed (λ at. failIf (wrongBlock count es at) (Block at)) (length es) right n there) in
-            subst P (sym (ap (concatMap numberPut) (take-suc es n Drain there) ∙ concatMap-append numberPut (take n es) (getD es n Drain ∷ [])))
-            (with-entry (putsUpTo n es) (getD es n Drain) fine p)
+            subst P (sym (puts-more es n there) ∙ ap (λ k. putsUpTo k es) (add-one n)) (with-entry (putsUpTo n es) (getD es n Drain) fine p)
         go false e p = let past = ltb-false n (length es) e in subst (λ l. P (concatMap numberPut l)) (take-whole es n (suc n) past (omega arith)) p
 
   -- no number is put twice, and each is a block's

@@ -23,8 +23,8 @@ use Rattle.schedule.specs.Trace.{lineIn, lineOf, traceLength, traceOf}
 use Rattle.schedule.proofs.Laws.Run.{length-outcomesFrom}
 use Rattle.schedule.proofs.Laws.Trace.{length-traceOf, lineIn-number, lineIn-value, lineIn-written}
 use Rattle.share_sheet.specs.Types.{Drain, Entry, Moved, Outcome, Sizes}
-use Rattle.share_sheet.specs.Notes.{GivenOnce, TraceOf, noted}
-use Rattle.share_sheet.specs.Sheet.{Share, blocks, gives, givingUpTo, shareBy, shareOf}
+use Rattle.share_sheet.specs.Filling.{GivenOnce, TraceOf, noted}
+use Rattle.share_sheet.specs.Sheet.{Share, blocks, gives, shareBy}
 
 -- ── Something for each block ────────────────────────────────────────────────────────────────────────────────────────────────
 
@@ -51,22 +51,26 @@ map-but-one g h k (suc n) (suc at) there same =
 -- ── Entry by entry ──────────────────────────────────────────────────────────────────────────────────────────────────────────
 
 module _ (es : List Entry) (os : List Outcome) where
-  -- what the first entries say of a block
+  -- of the first so many entries, those that answered TASK with the block; and what these say of it
+
+  abbrev pub givingUpTo : ℕ → ℕ → List ℕ
+  givingUpTo n block = concatMap (λ at. cond (gives block (getD os at Moved)) (at ∷ []) []) (range n)
+
   abbrev pub shareThen : ℕ → ℕ → Share
-  shareThen at b = shareBy es (givingUpTo at b os)
+  shareThen at b = shareBy es (givingUpTo at b)
 
   -- an entry more, which gives the block or does not
-  giving-more : (at b : ℕ) → givingUpTo (at + 1) b os ≡ givingUpTo at b os ++ cond (gives b (getD os at Moved)) (at ∷ []) []
+  giving-more : (at b : ℕ) → givingUpTo (at + 1) b ≡ givingUpTo at b ++ cond (gives b (getD os at Moved)) (at ∷ []) []
   giving-more at b =
       let places : ℕ → List ℕ = λ i. cond (gives b (getD os i Moved)) (i ∷ []) [] in
-      ap (concatMap places) (range-suc at) ∙ concatMap-append places (range at) (at ∷ []) ∙ ap (λ l. givingUpTo at b os ++ l) (append-nil (places at))
+      ap (concatMap places) (range-suc at) ∙ concatMap-append places (range at) (at ∷ []) ∙ ap (λ l. givingUpTo at b ++ l) (append-nil (places at))
 
   -- one that does not changes nothing
-  giving-same : (at b : ℕ) → gives b (getD os at Moved) ≡ false → givingUpTo (at + 1) b os ≡ givingUpTo at b os
-  giving-same at b other = giving-more at b ∙ ap (λ t. givingUpTo at b os ++ cond t (at ∷ []) []) other ∙ append-nil (givingUpTo at b os)
+  giving-same : (at b : ℕ) → gives b (getD os at Moved) ≡ false → givingUpTo (at + 1) b ≡ givingUpTo at b
+  giving-same at b other = giving-more at b ∙ ap (λ t. givingUpTo at b ++ cond t (at ∷ []) []) other ∙ append-nil (givingUpTo at b)
 
   -- where none did, there is none
-  giving-none : (n b : ℕ) → ((i : ℕ) → i < n → gives b (getD os i Moved) ≡ false) → givingUpTo n b os ≡ []
+  giving-none : (n b : ℕ) → ((i : ℕ) → i < n → gives b (getD os i Moved) ≡ false) → givingUpTo n b ≡ []
   giving-none zero b none = refl
   giving-none (suc n) b none = rw add-one at (giving-same n b (none n (omega arith)) ∙ giving-none n b (λ i below. none i (omega arith)))
 
@@ -76,12 +80,12 @@ module _ (es : List Entry) (os : List Outcome) where
   both-none (x ∷ l) m e = absurd (let clash : _≡_ {A = ℕ} 0 1 = cc in omega arith)
 
   -- where there is none, none did
-  pub none-giving : (n b : ℕ) → givingUpTo n b os ≡ [] → (i : ℕ) → i < n → gives b (getD os i Moved) ≡ true → ⊥
+  pub none-giving : (n b : ℕ) → givingUpTo n b ≡ [] → (i : ℕ) → i < n → gives b (getD os i Moved) ≡ true → ⊥
   none-giving zero b none i below here = not-suc-le-zero below
   none-giving (suc n) b none i below here = go (eqb i n) refl (λ earlier. none-giving n b (parts .0) i earlier here)
     where
-      parts : (givingUpTo n b os ≡ []) × (cond (gives b (getD os n Moved)) (n ∷ []) [] ≡ [])
-      parts = both-none (givingUpTo n b os) (cond (gives b (getD os n Moved)) (n ∷ []) []) (sym (giving-more n b) ∙ ap (λ k. givingUpTo k b os) (add-one n) ∙ none)
+      parts : (givingUpTo n b ≡ []) × (cond (gives b (getD os n Moved)) (n ∷ []) [] ≡ [])
+      parts = both-none (givingUpTo n b) (cond (gives b (getD os n Moved)) (n ∷ []) []) (sym (giving-more n b) ∙ ap (λ k. givingUpTo k b) (add-one n) ∙ none)
 
       last : gives b (getD os n Moved) ≡ true → ⊥
       last it = let one = ap (λ t. cond t (n ∷ []) []) (sym it) ∙ parts .1 in let clash : _≡_ {A = ℕ} 0 1 = cc in omega arith
@@ -91,14 +95,14 @@ module _ (es : List Entry) (os : List Outcome) where
       go false p before = before (let other = eqb-false i n p in omega arith)
 
   -- the first that did, did
-  pub first-giving : (n b at : ℕ) (l : List ℕ) → givingUpTo n b os ≡ at ∷ l → (at < n) × (gives b (getD os at Moved) ≡ true)
+  pub first-giving : (n b at : ℕ) (l : List ℕ) → givingUpTo n b ≡ at ∷ l → (at < n) × (gives b (getD os at Moved) ≡ true)
   first-giving zero b at l e = absurd (let clash : _≡_ {A = ℕ} 0 1 = cc in omega arith)
   first-giving (suc n) b at l e =
-      go (givingUpTo n b os) refl (gives b (getD os n Moved)) refl (λ m. first-giving n b at m) (sym (giving-more n b) ∙ ap (λ k. givingUpTo k b os) (add-one n) ∙ e)
+      go (givingUpTo n b) refl (gives b (getD os n Moved)) refl (λ m. first-giving n b at m) (sym (giving-more n b) ∙ ap (λ k. givingUpTo k b) (add-one n) ∙ e)
     where
-      go : (m : List ℕ) → givingUpTo n b os ≡ m → (t : Bool) → gives b (getD os n Moved) ≡ t
-          → ((m : List ℕ) → givingUpTo n b os ≡ at ∷ m → (at < n) × (gives b (getD os at Moved) ≡ true))
-          → givingUpTo n b os ++ cond (gives b (getD os n Moved)) (n ∷ []) [] ≡ at ∷ l
+      go : (m : List ℕ) → givingUpTo n b ≡ m → (t : Bool) → gives b (getD os n Moved) ≡ t
+          → ((m : List ℕ) → givingUpTo n b ≡ at ∷ m → (at < n) × (gives b (getD os at Moved) ≡ true))
+          → givingUpTo n b ++ cond (gives b (getD os n Moved)) (n ∷ []) [] ≡ at ∷ l
           → (at < suc n) × (gives b (getD os at Moved) ≡ true)
       go [] before true here earlier is =
           let all : n ∷ [] ≡ at ∷ l = (λ i. sym before i ++ cond (sym here i) (n ∷ []) []) ∙ is in

@@ -5,13 +5,12 @@ use mathlib.Core.List.{List, [], _∷_, _++_, map}
 use Prim.Native.Nat.{ℕ, zero, suc, _+_, _%_, _≤_, _<_}
 use native.Mathlib.Nat.{le-of-suc-le-suc, not-suc-le-zero}
 use native.Mathlib.Omega.{arith}
-use lib.Dec.{ltb}
-use lib.ListN.{length, drop, length-map, set, take}
+use lib.ListN.{length, drop, length-append, length-map, length-replicate, replicate, set, take}
 use borrow.Author.Tests.{le-ltb, lt-ltb, ltb-false, not-false}
 use Rattle.terms.specs.Lists.{rangeFrom}
 use Rattle.terms.specs.Sizes.{enoughMargin, within}
 use Rattle.terms.proofs.Laws.Lists.{map-take}
-use Rattle.terms.proofs.Laws.Sums.{length-rangeFrom}
+use Rattle.terms.proofs.Laws.Sums.{length-rangeFrom, sumOf-append}
 use Rattle.number.specs.Number.{bytesPut, overwritten, wordBytes}
 use Rattle.number.proofs.Laws.Overwritten.{length-overwritten, overwritten-one, overwritten-three}
 use Rattle.number.proofs.Laws.Words.{bytes-there, length-wordBytes}
@@ -21,35 +20,35 @@ use Rattle.schedule.specs.Reader.{readFile, readingChecks, readingOf}
 use Rattle.schedule.specs.Run.{scheduleIn}
 use Rattle.schedule.specs.declared.reader.Reading.the-variants as reading
 use Rattle.schedule.proofs.Laws.Check.{failIf-passed, first-append, first-append-failed, first-passed}
-use Rattle.schedule.proofs.Laws.Format.{encode-arrays}
+use Rattle.schedule.proofs.Laws.Format.{encode-arrays, length-encode, total-replicate}
 use Rattle.schedule.proofs.Laws.Reader.{Readable, accepted-readable, readable-accepted}
 use Rattle.share_sheet.specs.Types.{Accepted, Check, Entry, Failed, Margin, Outcome, Passed, Reading, Refusal, Room, Size, Sizes, Written}
 use Rattle.share_sheet.specs.declared.sheet.Sheet.the-variants as sheet
-use Rattle.share_sheet.specs.Notes.{PartiesFit}
-use Rattle.share_sheet.specs.Sheet.{blocks, checkBlocks, checksBehind, givingUpTo, shareBy, shareOf, sheetAnswer, sheetBy, sheetLength, sheetOf}
+use Rattle.share_sheet.specs.Filling.{PartiesFit}
+use Rattle.share_sheet.specs.Sheet.{SheetLength, answerBy, blocks, checkBlocks, checksAfterReading, giving, shareBy, shareOf, sheetAnswer, sheetChecks, sheetLayout, sheetLength, sheetOf}
 
 -- ── Checks ──────────────────────────────────────────────────────────────────────────────────────────────────────────────────
 
 -- which check decides, where one fails
 module _ (s : Sizes) (es : List Entry) (count room : ℕ) where
-  pub count-decides : within 1 255 count ≡ false → first (checksBehind s es count room) ≡ Failed (Size 7)
-  count-decides out = λ i. first (failIf (not (out i)) (Size 7) ∷ drop 1 (checksBehind s es count room))
+  pub count-decides : within 1 255 count ≡ false → first (checksAfterReading s es count room) ≡ Failed (Size 7)
+  count-decides out = λ i. first (failIf (not (out i)) (Size 7) ∷ drop 1 (checksAfterReading s es count room))
 
   module _ (inside : within 1 255 count ≡ true) where
-    pub margin-decides : enoughMargin s ≡ false → first (checksBehind s es count room) ≡ Failed Margin
-    margin-decides few = λ i. first (failIf (not (inside i)) (Size 7) ∷ failIf (not (few i)) Margin ∷ drop 2 (checksBehind s es count room))
+    pub margin-decides : enoughMargin s ≡ false → first (checksAfterReading s es count room) ≡ Failed Margin
+    margin-decides few = λ i. first (failIf (not (inside i)) (Size 7) ∷ failIf (not (few i)) Margin ∷ drop 2 (checksAfterReading s es count room))
 
     module _ (enough : enoughMargin s ≡ true) where
-      pub block-decides : (r : Refusal) → checkBlocks count es ≡ Failed r → first (checksBehind s es count room) ≡ Failed r
-      block-decides r wrong = λ i. first (failIf (not (inside i)) (Size 7) ∷ failIf (not (enough i)) Margin ∷ wrong i ∷ drop 3 (checksBehind s es count room))
+      pub block-decides : (r : Refusal) → checkBlocks count es ≡ Failed r → first (checksAfterReading s es count room) ≡ Failed r
+      block-decides r wrong = λ i. first (failIf (not (inside i)) (Size 7) ∷ failIf (not (enough i)) Margin ∷ wrong i ∷ drop 3 (checksAfterReading s es count room))
 
       module _ (right : checkBlocks count es ≡ Passed) where
-        pub room-decides : room < sheetLength count → first (checksBehind s es count room) ≡ Failed Room
+        pub room-decides : room < sheetLength count → first (checksAfterReading s es count room) ≡ Failed Room
         room-decides under =
             let small = lt-ltb room (sheetLength count) under in
             λ i. first (failIf (not (inside i)) (Size 7) ∷ failIf (not (enough i)) Margin ∷ right i ∷ failIf (small i) Room ∷ [])
 
-        pub none-fails : sheetLength count ≤ room → first (checksBehind s es count room) ≡ Passed
+        pub none-fails : sheetLength count ≤ room → first (checksAfterReading s es count room) ≡ Passed
         none-fails fits =
             let large = le-ltb room (sheetLength count) fits in
             λ i. first (failIf (not (inside i)) (Size 7) ∷ failIf (not (enough i)) Margin ∷ right i ∷ failIf (large i) Room ∷ [])
@@ -61,9 +60,9 @@ pub record Fit (s : Sizes) (es : List Entry) (count room : ℕ) : Type 0 where
   pub right : checkBlocks count es ≡ Passed
   pub fits : sheetLength count ≤ room
 
-pub passed-fit : (s : Sizes) (es : List Entry) (count room : ℕ) → first (checksBehind s es count room) ≡ Passed → Fit s es count room
+pub passed-fit : (s : Sizes) (es : List Entry) (count room : ℕ) → first (checksAfterReading s es count room) ≡ Passed → Fit s es count room
 passed-fit s es count room passed =
-    let each = first-passed (checksBehind s es count room) passed in
+    let each = first-passed (checksAfterReading s es count room) passed in
     record {
       inside = not-false (within 1 255 count) (failIf-passed _ (Size 7) (each 0));
       enough = not-false (enoughMargin s) (failIf-passed _ Margin (each 1));
@@ -98,6 +97,21 @@ module _ (count : ℕ) (es : List Entry) (os : List Outcome) where
   abbrev pub entries : List ℕ
   entries = map (λ b. shareOf es os b .entry) (blocks count)
 
+  abbrev numbers : List ℕ
+  numbers = count ∷ (parties ++ entries)
+
+  as-many : length (sheetLayout count) ≡ length numbers
+  as-many =
+      omega (
+        arith,
+        length-append {A = ℕ} (replicate count 1) (replicate count 4),
+        length-replicate {A = ℕ} count 1,
+        length-replicate {A = ℕ} count 4,
+        length-append parties entries,
+        length-blocks (λ b. shareOf es os b .party) count,
+        length-blocks (λ b. shareOf es os b .entry) count,
+      )
+
   module _ (few : count ≤ 255) (fit : PartiesFit es) where
     -- a party is a byte
     party-fits : (l : List ℕ) → shareBy es l .party < 256
@@ -105,7 +119,7 @@ module _ (count : ℕ) (es : List Entry) (os : List Outcome) where
     party-fits (at ∷ l) = fit at
 
     pub parties-fit : allBelow 256 parties ≡ true
-    parties-fit = blocks-below (λ b. shareOf es os b .party) 256 (λ b. party-fits (givingUpTo (length os) b os)) (blocks count)
+    parties-fit = blocks-below (λ b. shareOf es os b .party) 256 (λ b. party-fits (giving b os)) (blocks count)
 
     -- the count, the parties, the entries
     pub sheetOf-parts : sheetOf count es os ≡ (count ∷ []) ++ parties ++ wordBytes entries
@@ -133,6 +147,12 @@ module _ (count : ℕ) (es : List Entry) (os : List Outcome) where
         overwritten-three (count ∷ []) parties (wordBytes entries) b b₁ b₂ b₃ put₁ put₂ (put₃ ∙ ap (λ n. overwritten (1 + n) (wordBytes entries) b₂) (sym many))
         ∙ ap (λ l. overwritten 0 l b) (sym sheetOf-parts)
 
+pub length-sheetOf : SheetLength
+length-sheetOf count es os =
+    length-encode (sheetLayout count) (numbers count es os) (as-many count es os)
+    ∙ ap (λ k. 1 + k) (sumOf-append (λ w. w) (replicate count 1) (replicate count 4))
+    ∙ rw (total-replicate count 1, total-replicate count 4) (omega arith)
+
 -- ── Files ───────────────────────────────────────────────────────────────────────────────────────────────────────────────────
 
 module _ (file : List ℕ) (count room : ℕ) where
@@ -140,22 +160,29 @@ module _ (file : List ℕ) (count room : ℕ) where
   pub file-decides : (r : Refusal) → readFile file ≡ reading.Refused r → sheetAnswer file count room ≡ sheet.Refused r
   file-decides r refused =
       let found = first-of (first (readingChecks file)) refl refused in
-      ap (sheetBy count) (first-append-failed (readingChecks file) (checksBehind (sizesIn file) (scheduleIn file) count room) r found)
+      ap (answerBy count) (first-append-failed (readingChecks file) (checksAfterReading (sizesIn file) (scheduleIn file) count room) r found)
     where
       first-of : (c : Check) → first (readingChecks file) ≡ c → readingOf file c ≡ reading.Refused r → first (readingChecks file) ≡ Failed r
       first-of Passed is e = absurd (let clash : _≡_ {A = ℕ} 0 1 = cc in omega arith)
       first-of (Failed q) is e = let same : q ≡ r = cc in is ∙ ap Failed same
 
   -- of one that is read, the checks behind decide
-  pub behind-decides : (s : Sizes) (n : ℕ) → readFile file ≡ Accepted s n → sheetAnswer file count room ≡ sheetBy count (first (checksBehind s (scheduleIn file) count room))
+  pub behind-decides : (s : Sizes) (n : ℕ) → readFile file ≡ Accepted s n → sheetAnswer file count room ≡ answerBy count (first (checksAfterReading s (scheduleIn file) count room))
   behind-decides s n accepted =
       let passed = all-passed (first (readingChecks file)) refl accepted in
-      ap (sheetBy count) (first-append (readingChecks file) (checksBehind (sizesIn file) (scheduleIn file) count room) passed)
-      ∙ ap (λ t. sheetBy count (first (checksBehind t (scheduleIn file) count room))) (sym (accepted-readable file s n accepted .0))
+      ap (answerBy count) (first-append (readingChecks file) (checksAfterReading (sizesIn file) (scheduleIn file) count room) passed)
+      ∙ ap (λ t. answerBy count (first (checksAfterReading t (scheduleIn file) count room))) (sym (accepted-readable file s n accepted .0))
     where
       all-passed : (c : Check) → first (readingChecks file) ≡ c → readingOf file c ≡ Accepted s n → first (readingChecks file) ≡ Passed
       all-passed Passed is e = is
       all-passed (Failed q) is e = absurd (let clash : _≡_ {A = ℕ} 0 1 = cc in omega arith)
+
+  pub written-length : (n : ℕ) → sheetAnswer file count room ≡ Written n → sheetLength count ≡ n
+  written-length n written = go (first (sheetChecks file count room)) written
+    where
+      go : (c : Check) → answerBy count c ≡ Written n → sheetLength count ≡ n
+      go Passed e = cc
+      go (Failed r) e = absurd (let clash : _≡_ {A = ℕ} 0 1 = cc in omega arith)
 
   -- what a file is of which a sheet is written
   pub record Sheeted : Type 0 where
@@ -165,7 +192,7 @@ module _ (file : List ℕ) (count room : ℕ) where
   pub written-sheeted : (n : ℕ) → sheetAnswer file count room ≡ Written n → Sheeted
   written-sheeted n written = go (readFile file) refl
     where
-      fit-of : (c : Check) → first (checksBehind (sizesIn file) (scheduleIn file) count room) ≡ c → sheetBy count c ≡ Written n → Fit (sizesIn file) (scheduleIn file) count room
+      fit-of : (c : Check) → first (checksAfterReading (sizesIn file) (scheduleIn file) count room) ≡ c → answerBy count c ≡ Written n → Fit (sizesIn file) (scheduleIn file) count room
       fit-of Passed passed e = passed-fit (sizesIn file) (scheduleIn file) count room passed
       fit-of (Failed r) failed e = absurd (let clash : _≡_ {A = ℕ} 0 1 = cc in omega arith)
 

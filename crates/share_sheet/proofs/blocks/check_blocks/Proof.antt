@@ -1,5 +1,5 @@
 -- `check_blocks` meets its contract. Its loop keeps that no begin put before `at` is wrong, and that the marks are of their numbers; the measure is what is left of the entries.
-use mathlib.Core.Path.{_≡_, ap, sym, _∙_}
+use mathlib.Core.Path.{sym, _∙_}
 use Prim.Native.Nat.{_-_, _≤_}
 use native.Mathlib.Omega.{arith}
 use borrow.Author.Needs.{needs}

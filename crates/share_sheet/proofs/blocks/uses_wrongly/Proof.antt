@@ -15,7 +15,7 @@ use Rattle.terms.proofs.Laws.Sizes.{within-bounds}
 use Rattle.terms.proofs.Laws.Tests.{denied, granted}
 use Rattle.properties.specs.ExactlyOnce.{numberPut}
 use Rattle.share_sheet.specs.Types.{BeginPut, BeginSteal, BeginTake, ClientStore, Drain, Entry, ThiefStep, WorkerStep}
-use Rattle.share_sheet.specs.Notes.{marked, wrongByMarks}
+use Rattle.share_sheet.specs.Filling.{marked, wrongByMarks}
 use Rattle.share_sheet.proofs.blocks.uses_wrongly.Statement.{statement}
 use Rattle.share_sheet.proofs.blocks.uses_wrongly.Tie as tie
 

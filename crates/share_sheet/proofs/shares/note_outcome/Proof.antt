@@ -1,6 +1,5 @@
 -- `note_outcome` meets its contract: a TASK's block has its place in both arrays, and another outcome leaves them as they are.
-use mathlib.Core.Path.{_≡_, ap, sym}
-use mathlib.Core.Bool.{true, cond}
+use mathlib.Core.Path.{sym}
 use Prim.Native.Nat.{_≤_}
 use native.Mathlib.Omega.{arith}
 use borrow.Author.Needs.{needs}

@@ -11,7 +11,7 @@ use Rattle.terms.specs.Sizes.{within}
 use Rattle.schedule.specs.Format.{wordsIn}
 use Rattle.schedule.specs.Run.{entriesOf, outcomesFrom}
 use Rattle.schedule.proofs.Laws.Run.{entry-there, length-outcomesFrom}
-use Rattle.share_sheet.specs.Notes.{noted}
+use Rattle.share_sheet.specs.Filling.{noted}
 use Rattle.share_sheet.specs.Sheet.{blocks}
 use Rattle.share_sheet.proofs.Laws.Shares.{block-read, entries-none, noted-more, number-read, parties-none, shareThen, value-read}
 use Rattle.share_sheet.proofs.shares.note_shares.Statement.{statement}

@@ -11,7 +11,7 @@ use Rattle.schedule.specs.Format.{wordsIn}
 use Rattle.schedule.specs.Run.{entriesOf, outcomesFrom}
 use Rattle.schedule.specs.Trace.{traceLength}
 use Rattle.schedule.proofs.Laws.Run.{fits-room, length-entriesUpTo, length-outcomesFrom, longest-fits, longest-put, party-there}
-use Rattle.share_sheet.specs.Notes.{PartiesFit, TraceOf}
+use Rattle.share_sheet.specs.Filling.{PartiesFit, TraceOf}
 use Rattle.share_sheet.specs.Sheet.{shareOf}
 use Rattle.share_sheet.proofs.Laws.Given.{block-values-fit, given-once}
 use Rattle.share_sheet.proofs.Laws.Shares.{given-wider, trace-of}

@@ -11,7 +11,7 @@ use Rattle.schedule.specs.Run.{outcomesIn, scheduleIn}
 use Rattle.schedule.proofs.Laws.Run.{PartsOf, parts-obeyed}
 use Rattle.share_sheet.specs.Types.{Accepted}
 use Rattle.share_sheet.specs.declared.sheet.Sheet.the-variants as sheet
-use Rattle.share_sheet.specs.Sheet.{bufferIf, checksBehind, sheetAnswer, sheetBy, sheetOf}
+use Rattle.share_sheet.specs.Sheet.{bufferIf, checksAfterReading, sheetAnswer, answerBy, sheetOf}
 use Rattle.share_sheet.proofs.Faults.{sheet-promises}
 use Rattle.share_sheet.proofs.Laws.Sheet.{behind-decides, file-decides}
 use Rattle.share_sheet.proofs.sheet.share_sheet.Statement.{statement}
@@ -48,19 +48,19 @@ parts c =
 -- what the checks behind found decides
 decided : (c : tie.After-check-sheet)
     → let a = c .before .before .before .before .before .before .before .before .before .args in
-    sheetAnswer (a .file .now) (a .count) (length (a .sheet .now)) ≡ sheetBy (a .count) (c .check-sheet .result)
+    sheetAnswer (a .file .now) (a .count) (length (a .sheet .now)) ≡ answerBy (a .count) (c .check-sheet .result)
 decided c =
     let opened = c .before .before .before .before in
     let a = opened .before .before .before .before .before .args in
     let s = opened .reading .given .0 .0 in
     behind-decides (a .file .now) (a .count) (length (a .sheet .now)) s _ (accepted c)
-    ∙ ap (sheetBy (a .count)) (ap (λ es. first (checksBehind s es (a .count) (length (a .sheet .now)))) (sym (parts c .entries)) ∙ sym (c .check-sheet .ensures))
+    ∙ ap (answerBy (a .count)) (ap (λ es. first (checksAfterReading s es (a .count) (length (a .sheet .now)))) (sym (parts c .entries)) ∙ sym (c .check-sheet .ensures))
 
 returns-2 : tie.Need-returns-2
 returns-2 c =
     let checked = c .before .before .before in
     let a = checked .before .before .before .before .before .before .before .before .before .args in
-    let refused = decided checked ∙ ap (sheetBy (a .count)) (c .before .found .given .1) in
+    let refused = decided checked ∙ ap (answerBy (a .count)) (c .before .found .given .1) in
     let kept = sym (ap (bufferIf (sheetOf (a .count) (scheduleIn (a .file .now)) (outcomesIn (a .file .now))) (a .sheet .now)) refused) in
     sheet-promises (a .file .now) (a .count) (a .sheet .now) _ _ (sym refused) kept
 
@@ -75,7 +75,7 @@ returns-3 c =
     let put = c .before .before in
     let checked = put .before .before .before .before in
     let a = checked .before .before .before .before .before .before .before .before .before .args in
-    let written = decided checked ∙ ap (sheetBy (a .count)) (put .before .before .enum-told2 .given .1) in
+    let written = decided checked ∙ ap (answerBy (a .count)) (put .before .before .enum-told2 .given .1) in
     sheet-promises (a .file .now) (a .count) (a .sheet .now) _ _ (sym written)
     (put .put-sheet .ensures
     ∙ (λ i. overwritten 0 (sheetOf (a .count) (parts checked .entries i) (parts checked .outcomes i)) (a .sheet .now))

@@ -1,4 +1,4 @@
--- What the functions that make a sheet promise each other. Nothing here is of the papers: `Sheet` says what a sheet is, and `proofs/Laws` has that it is filled so.
+-- What the functions that check blocks and fill a sheet promise each other. Nothing here is of the papers: `Sheet` says what a sheet is, and `proofs/Laws` has that it is filled so.
 use mathlib.Core.Path.{_≡_}
 use mathlib.Core.Bool.{Bool, true, false, cond, not, _||_}
 use mathlib.Core.List.{List, [], _∷_}
