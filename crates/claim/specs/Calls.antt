@@ -17,9 +17,9 @@ pub data Party : Type 0 where
   thief : ℕ → Party
 
 -- the party with this number (`partyNumber`)
-abbrev pub counted : ℕ → Party
-counted zero = worker
-counted (suc i) = thief i
+abbrev pub partyWith : ℕ → Party
+partyWith zero = worker
+partyWith (suc i) = thief i
 
 abbrev pub sameParty : Party → Party → Bool
 sameParty worker worker = true
@@ -110,7 +110,7 @@ taskIn End = []
 
 -- whose entry it is
 abbrev pub partyOf : Entry → Party
-partyOf e = counted (partyNumber e)
+partyOf e = partyWith (partyNumber e)
 
 -- what it begins
 abbrev pub begunBy : Entry → Begun

@@ -1,4 +1,4 @@
--- What is claimed of a queue. Names in quotation marks are places of the scope paper, 01.
+-- What is claimed of a queue. Names in quotation marks are places of the scope paper, 01; "02" is the list of change requests.
 --
 -- the plain queue, its limits           PlainQueue
 -- parties, calls, effects               Calls

@@ -84,6 +84,6 @@ writingAnswer (writing.Refused r) = refusalAnswer r
 -- ── Share sheets ────────────────────────────────────────────────────────────────────────────────────────────────────────────
 
 -- how many bytes the sheet has, or the refusal
-abbrev pub sheetNumber : Sheet → ℕ
-sheetNumber (sheet.Written n) = n
-sheetNumber (sheet.Refused r) = refusalAnswer r
+abbrev pub sheetAnswer : Sheet → ℕ
+sheetAnswer (sheet.Written n) = n
+sheetAnswer (sheet.Refused r) = refusalAnswer r

@@ -13,11 +13,11 @@ use Rattle.schedule.specs.Format.{sizeBytes}
 use Rattle.schedule.specs.Reader.{readFile}
 use Rattle.schedule.specs.Runs.{before, exampleTrace, file, twoTakesAndASteal}
 use Rattle.comparison.specs.Alike.{likeness}
-use Rattle.share_sheet.specs.Sheet.{sheetAfter, sheetAnswer}
+use Rattle.share_sheet.specs.Sheet.{sheetAfter, makeSheet}
 use Rattle.share_sheet.specs.Sheets.{design, designSheet, enough}
 use Rattle.writer.specs.Writer.{writeFile}
 use Rattle.exports.specs.Types.{Refusal, Room, Sizes}
-use Rattle.exports.specs.Answer.{likenessAnswer, readingAnswer, refusalAnswer, runInto, runningAnswer, sheetNumber, sizesAfter, totalsAfter, traceInto, writingAnswer}
+use Rattle.exports.specs.Answer.{likenessAnswer, readingAnswer, refusalAnswer, runInto, runningAnswer, sheetAnswer, sizesAfter, totalsAfter, traceInto, writingAnswer}
 
 pub data Row : Type 0 where
   -- a refusal, and the number that is answered
@@ -42,7 +42,7 @@ holds (runs file trace totals answer begins after) =
     && equal (totalsAfter (runInto file (length trace) totals) totals) after
 holds (compares first second answer) = eqb (likenessAnswer (likeness first second)) answer
 holds (writes s kinds operands room answer) = eqb (writingAnswer (writeFile s kinds operands room)) answer
-holds (shares file count buffer answer after) = eqb (sheetNumber (sheetAnswer file count (length buffer))) answer && equal (sheetAfter file count buffer) after
+holds (shares file count buffer answer after) = eqb (sheetAnswer (makeSheet file count (length buffer))) answer && equal (sheetAfter file count buffer) after
 
 abbrev pub table : List Row
 table =

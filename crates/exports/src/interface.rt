@@ -2,10 +2,10 @@ ghost use mathlib.Core.Path.{_≡_};
 ghost use lib.ListN.{length};
 ghost use Rattle.comparison.specs.Alike.{likeness};
 ghost use Rattle.schedule.specs.Reader.{readFile};
-ghost use Rattle.share_sheet.specs.Sheet.{sheetAfter, sheetAnswer};
+ghost use Rattle.share_sheet.specs.Sheet.{sheetAfter, makeSheet};
 ghost use Rattle.terms.specs.Sizes.{neededMargin, sized};
 ghost use Rattle.writer.specs.Writer.{bufferAfter, writeFile};
-ghost use Rattle.exports.specs.Answer.{likenessAnswer, readingAnswer, runInto, runningAnswer, sheetNumber, sizesAfter, totalsAfter, traceInto, writingAnswer};
+ghost use Rattle.exports.specs.Answer.{likenessAnswer, readingAnswer, runInto, runningAnswer, sheetAnswer, sizesAfter, totalsAfter, traceInto, writingAnswer};
 use crate::answer::answer_of;
 use crate::answer::likeness_of;
 use crate::answer::put_sizes;
@@ -104,7 +104,7 @@ pub extern "C" fn rehearsal_write(
 // Makes the share sheet of a schedule file and a count of blocks. Tells how many bytes the sheet has.
 #[no_mangle]
 pub extern "C" fn rehearsal_share_sheet(file: &[u8], count: u32, sheet: &mut [u8]) -> u64
-    ensures { λ r. ⌜ r ≡ sheetNumber (sheetAnswer (now (file .entry)) count (length (now (sheet .entry)))) ⌝ }
+    ensures { λ r. ⌜ r ≡ sheetAnswer (makeSheet (now (file .entry)) count (length (now (sheet .entry)))) ⌝ }
     ensures { λ _. ⌜ now (sheet .exit) ≡ sheetAfter (now (file .entry)) count (now (sheet .entry)) ⌝ }
 {
     let made = share_sheet(file, count, sheet);

@@ -1,4 +1,4 @@
--- What else is true of every run. Names in quotation marks are places of the scope paper, 01.
+-- What else is true of every run. Names in quotation marks are places of the scope paper, 01; "02" is the list of change requests.
 --
 -- no step depends on a task's number    Renumbering
 -- no task is lost or given twice        ExactlyOnce, Accounts

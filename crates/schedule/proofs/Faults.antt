@@ -9,7 +9,6 @@ use lib.ListN.{getD, length}
 use borrow.Author.Tests.{eq-eqb, eqb-true, le-ltb, ltb-false, ltb-true}
 use Rattle.schedule.specs.Types.{Accepted, Failed, Passed, Reading, Refusal, Running, Short, Sizes}
 use Rattle.schedule.specs.declared.reader.Reading.the-variants as reading
-use Rattle.schedule.specs.declared.runner.Running.the-variants as running
 use Rattle.schedule.specs.Check.{checkRanges}
 use Rattle.schedule.specs.Entries.{checkEntries, checkOf, entryAt}
 use Rattle.schedule.specs.Faults.{ReaderRefusesFaults, RefusedRunUntouched, RunnerRefusesFaults}

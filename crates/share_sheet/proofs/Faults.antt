@@ -1,4 +1,4 @@
--- What is refused has the fault that is given, and what has a fault is refused; and a refusal leaves the lent buffer as it was.
+-- What is refused has the fault that is given, and what has a fault is refused; a refusal leaves the lent buffer as it was, and a sheet what lies beyond it.
 use mathlib.Core.Path.{_≡_, refl, ap, sym, _∙_, subst}
 use mathlib.Core.Bool.{Bool, true, false, and-false, not, _&&_, false≢true}
 use mathlib.Core.List.{List}
@@ -21,10 +21,9 @@ use Rattle.schedule.proofs.Faults.{reader-refuses-faults, still-fault}
 use Rattle.schedule.proofs.Laws.Check.{failIf-failed, first-failed, not-both}
 use Rattle.schedule.proofs.Laws.Reader.{accepted-readable, readable-accepted}
 use Rattle.share_sheet.specs.Types.{Accepted, Check, Failed, Margin, Passed, Reading, Refusal, Room, Sheet, Size}
-use Rattle.share_sheet.specs.declared.sheet.Sheet.the-variants as sheet
 use Rattle.share_sheet.specs.Faults.{BeyondUntouched, RefusedSheetUntouched, SheetRefusesFaults, refusalInSheet, sheetHas}
 use Rattle.share_sheet.specs.Given.{SheetTells}
-use Rattle.share_sheet.specs.Sheet.{bufferIf, checksAfterReading, sheetAfter, sheetAnswer, answerBy, sheetLength, sheetOf}
+use Rattle.share_sheet.specs.Sheet.{bufferIf, checksAfterReading, sheetAfter, makeSheet, answerBy, sheetLength, sheetOf}
 use Rattle.share_sheet.proofs.FirstBlock.{check-tells-first-block}
 use Rattle.share_sheet.proofs.Laws.Sheet.{Fit, behind-decides, file-decides, length-sheetOf, passed-fit, written-length}
 use Rattle.share_sheet.proofs.Given.{every-sheet-tells}
@@ -80,7 +79,7 @@ sheet-refuses-faults file count room = go (readFile file) refl (reader-refuses-f
     behind Passed passed clean = no-fault file count room passed clean
     behind (Failed r) failed clean = let found = first-failed (checksAfterReading (sizesIn file) (scheduleIn file) count room) r failed in behind-fault file count room r (found .0) (found .1 .1 .0)
 
-    go : (answer : Reading) → readFile file ≡ answer → Refuses (fileHas file) (refusalInReading (readFile file)) → Refuses (sheetHas file count room) (refusalInSheet (sheetAnswer file count room))
+    go : (answer : Reading) → readFile file ≡ answer → Refuses (fileHas file) (refusalInReading (readFile file)) → Refuses (sheetHas file count room) (refusalInSheet (makeSheet file count room))
     go (reading.Refused r) e faults =
         subst (λ a. Refuses (sheetHas file count room) (refusalInSheet a)) (sym (file-decides file count room r e))
         (file-fault file count room (numberOf r) (placeOf r) (subst (λ a. Refuses (fileHas file) (refusalInReading a)) e faults))
@@ -99,15 +98,15 @@ beyond-untouched file count buffer n written =
     ap (λ a. drop n (bufferIf new buffer a)) written ∙ drop-at new (drop (0 + length new) buffer) n long ∙ ap (λ k. drop k buffer) (zero-add (length new) ∙ long)
 
 -- what `share_sheet` promises, of the answer that it hands back and of the buffer
-pub sheet-promises : (file : List ℕ) (count : ℕ) (buffer : List ℕ) (answer : Sheet) (after : List ℕ) → answer ≡ sheetAnswer file count (length buffer) → after ≡ sheetAfter file count buffer
-    → (answer ≡ sheetAnswer file count (length buffer))
+pub sheet-promises : (file : List ℕ) (count : ℕ) (buffer : List ℕ) (answer : Sheet) (after : List ℕ) → answer ≡ makeSheet file count (length buffer) → after ≡ sheetAfter file count buffer
+    → (answer ≡ makeSheet file count (length buffer))
     × ((after ≡ sheetAfter file count buffer) × (SheetTells file count after answer × Refuses (sheetHas file count (length buffer)) (refusalInSheet answer)))
 sheet-promises file count buffer answer after told put = (
   told,
   (
     put,
     (
-      λ n written. subst (λ l. SheetTells file count l (sheetAnswer file count (length buffer))) (sym put) (every-sheet-tells file count buffer) n (sym told ∙ written),
+      λ n written. subst (λ l. SheetTells file count l (makeSheet file count (length buffer))) (sym put) (every-sheet-tells file count buffer) n (sym told ∙ written),
       subst (λ a. Refuses (sheetHas file count (length buffer)) (refusalInSheet a)) (sym told) (sheet-refuses-faults file count (length buffer)),
     ),
   ),

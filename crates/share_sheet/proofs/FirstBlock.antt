@@ -16,12 +16,11 @@ use Rattle.terms.proofs.Laws.Lists.{all-snoc}
 use Rattle.terms.proofs.Laws.Sums.{adds-occurrences, range-suc}
 use Rattle.terms.proofs.Laws.Tests.{eqb-comm}
 use Rattle.properties.specs.ExactlyOnce.{numberPut}
-use Rattle.schedule.specs.Check.{failIf}
-use Rattle.schedule.proofs.Laws.Check.{failIf-failed, failIf-passed, range-failed, range-passed}
-use Rattle.share_sheet.specs.Types.{BeginPut, BeginSteal, BeginTake, Block, Check, ClientStore, Drain, Entry, Failed, Passed, Refusal, ThiefStep, WorkerStep}
+use Rattle.schedule.proofs.Laws.Check.{failIf-failed, failIf-passed, range-failed}
+use Rattle.share_sheet.specs.Types.{BeginPut, BeginSteal, BeginTake, Block, ClientStore, Drain, Entry, Failed, Passed, Refusal, ThiefStep, WorkerStep}
 use Rattle.share_sheet.specs.Faults.{CheckTellsFirstBlock, blockHas, putBefore, putsAt}
 use Rattle.share_sheet.specs.Sheet.{checkBlocks, putsUpTo, wrongBlock, wrongPut}
-use Rattle.share_sheet.proofs.Laws.Blocks.{puts-more}
+use Rattle.share_sheet.proofs.Laws.Blocks.{check, puts-more, right-at}
 
 -- ── BLOCK said in two ways ──────────────────────────────────────────────────────────────────────────────────────────────────
 
@@ -93,13 +92,10 @@ said-twice count es at = go (ltb at (length es)) refl
 pub check-tells-first-block : CheckTellsFirstBlock
 check-tells-first-block count es = record { told = λ r e. first r e .0; here = λ r e. first r e .1; none-before = λ r e. first r e .2; passed = passed }
   where
-    check : ℕ → Check
-    check at = failIf (wrongBlock count es at) (Block at)
-
     first : (r : Refusal) → checkBlocks count es ≡ Failed r
         → (r ≡ Block (placeOf r)) × (blockHas count es (placeOf r) ≡ true) × ((before : ℕ) → before < placeOf r → blockHas count es before ≡ false)
     first r e =
-        let found = range-failed check (length es) r e in
+        let found = range-failed (check count es) (length es) r e in
         let fault = failIf-failed (wrongBlock count es (found .0)) (Block (found .0)) (found .1 .1 .0) in
         let place : placeOf r ≡ found .0 = ap placeOf (fault .1) in (
           fault .1 ∙ ap Block (sym place),
@@ -111,5 +107,5 @@ check-tells-first-block count es = record { told = λ r e. first r e .0; here = 
     passed e place = sym (said-twice count es place) ∙ go (ltb place (length es)) refl
       where
         go : (inside : Bool) → ltb place (length es) ≡ inside → wrongBlock count es place ≡ false
-        go true p = failIf-passed (wrongBlock count es place) (Block place) (range-passed check (length es) e place (ltb-true place (length es) p))
+        go true p = right-at count es e place (ltb-true place (length es) p)
         go false p = ap (wrongPut count (putsUpTo place es)) (List·getD-eq-default es Drain (ltb-false place (length es) p))

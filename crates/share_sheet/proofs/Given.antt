@@ -11,7 +11,7 @@ use Rattle.terms.specs.Kinds.{partyNumber}
 use Rattle.terms.specs.Lists.{occurrences}
 use Rattle.terms.specs.Outcome.{numberOf, valueOf}
 use Rattle.terms.specs.Sizes.{sizesInRange, within}
-use Rattle.terms.proofs.Laws.Sizes.{sizes-bounds, within-bounds}
+use Rattle.terms.proofs.Laws.Sizes.{within-bounds}
 use Rattle.properties.specs.ExactlyOnce.{stored}
 use Rattle.schedule.specs.Format.{decode, entriesIn, kindsIn, operandsIn, sizesIn}
 use Rattle.schedule.specs.Run.{outcomesIn, scheduleIn}
@@ -19,16 +19,16 @@ use Rattle.schedule.specs.Trace.{lineIn, lineOf, traceOf}
 use Rattle.schedule.proofs.Laws.Check.{few-entries, getD-map-rangeFrom, ranges-sizes}
 use Rattle.schedule.proofs.Laws.Format.{decode-encode, fitting, fitting-append, fitting-replicate}
 use Rattle.schedule.proofs.Laws.Reader.{readable-accepted}
-use Rattle.schedule.proofs.Laws.Run.{outcomes-counted, party-there, schedule-length}
+use Rattle.schedule.proofs.Laws.Run.{outcomes-counted, schedule-length}
 use Rattle.schedule.proofs.Laws.Trace.{lineIn-written}
 use Rattle.share_sheet.specs.Types.{Drain, Entry, Moved, Outcome, Task}
 use Rattle.share_sheet.specs.Given.{EverySheetTells, TaskAt, SheetFacts, shareIn}
-use Rattle.share_sheet.specs.Sheet.{Share, blocks, bufferIf, giving, shareBy, shareOf, sheetLayout, sheetOf}
+use Rattle.share_sheet.specs.Sheet.{Share, blocks, bufferIf, giving, partiesOf, placesOf, shareBy, shareOf, sheetLayout, sheetOf}
 use Rattle.share_sheet.proofs.Laws.Given.{block-values-fit, gives-task, task-gives, task-is-block, task-once, task-stored}
 use Rattle.share_sheet.proofs.Laws.Shares.{first-giving, none-giving}
-use Rattle.share_sheet.proofs.Laws.Sheet.{Sheeted, blocks-below, entries, length-blocks, parties, parties-fit, written-sheeted}
+use Rattle.share_sheet.proofs.Laws.Sheet.{Checked, blocks-below, length-parties, length-places, parties-fit, party-most, written-checked}
 
-module _ (file : List ℕ) (count room : ℕ) (made : Sheeted file count room) where
+module _ (file : List ℕ) (count room : ℕ) (made : Checked file count room) where
   abbrev es : List Entry
   es = scheduleIn file
 
@@ -52,11 +52,8 @@ module _ (file : List ℕ) (count room : ℕ) (made : Sheeted file count room) w
   short : length es ≤ 4096
   short = omega (arith, few-entries (sizesIn file) (entriesIn file) (made .readable .ranges), long-es)
 
-  -- no party is beyond the eighth thief
-  party-most : (at : ℕ) → partyNumber (getD es at Drain) ≤ 8
-  party-most at =
-      let n = entriesIn file in
-      omega (arith, party-there (sizesIn file) (kindsIn n file) (operandsIn n file) (made .readable .each) at, sizes-bounds (sizesIn file) ranged .thieves-most)
+  party-small : (at : ℕ) → partyNumber (getD es at Drain) ≤ 8
+  party-small = party-most (sizesIn file) (kindsIn (entriesIn file) file) (operandsIn (entriesIn file) file) ranged (made .readable .each)
 
   -- a TASK in the trace is a TASK of the run
 
@@ -88,23 +85,17 @@ module _ (file : List ℕ) (count room : ℕ) (made : Sheeted file count room) w
   entry-fits b (at ∷ l) e = omega (arith, first-giving es os (length os) b at l e .0, long-os, long-es, short)
 
   abbrev P : List ℕ
-  P = parties count es os
+  P = partiesOf count es os
 
   abbrev E : List ℕ
-  E = entries count es os
-
-  long-P : length P ≡ count
-  long-P = length-blocks (λ b. shareOf es os b .party) count
-
-  long-E : length E ≡ count
-  long-E = length-blocks (λ b. shareOf es os b .entry) count
+  E = placesOf count es os
 
   -- the count, the parties and the entries
   numbers : (rest : List ℕ) → decode (sheetLayout count) (sheetOf count es os ++ rest) ≡ count ∷ (P ++ E)
   numbers rest =
       let byte = lt-ltb count 256 (omega (arith, few)) in
-      let parties-are = ap (λ k. fitting (replicate k 1) P) (sym long-P) ∙ fitting-replicate 1 P ∙ parties-fit count es os few (λ at. omega (arith, party-most at)) in
-      let entries-are = ap (λ k. fitting (replicate k 4) E) (sym long-E) ∙ fitting-replicate 4 E ∙ blocks-below (λ b. shareOf es os b .entry) 4294967296 (λ b. entry-fits b _ refl) (blocks count) in
+      let parties-are = ap (λ k. fitting (replicate k 1) P) (sym (length-parties count es os)) ∙ fitting-replicate 1 P ∙ parties-fit count es os few (λ at. omega (arith, party-small at)) in
+      let entries-are = ap (λ k. fitting (replicate k 4) E) (sym (length-places count es os)) ∙ fitting-replicate 4 E ∙ blocks-below (λ b. shareOf es os b .entry) 4294967296 (λ b. entry-fits b _ refl) (blocks count) in
       decode-encode (sheetLayout count) (count ∷ (P ++ E)) rest (λ i. byte i && fitting-append (replicate count 1) (replicate count 4) P E parties-are entries-are i)
 
   -- so what the bytes say of a block is its share
@@ -116,9 +107,9 @@ module _ (file : List ℕ) (count room : ℕ) (made : Sheeted file count room) w
       let here : block ≡ suc i = omega arith in
       let there : count + block ≡ suc (count + i) = omega arith in
       let of-block : 1 + i ≡ block = omega arith in
-      let party = (λ j. getD (numbers rest j) (here j) 0) ∙ List·getD-append P E 0 i (omega (arith, long-P)) ∙ getD-map-rangeFrom (λ b. shareOf es os b .party) 0 1 count i (omega arith) ∙ ap (λ b. shareOf es os b .party) of-block in
+      let party = (λ j. getD (numbers rest j) (here j) 0) ∙ List·getD-append P E 0 i (omega (arith, length-parties count es os)) ∙ getD-map-rangeFrom (λ b. shareOf es os b .party) 0 1 count i (omega arith) ∙ ap (λ b. shareOf es os b .party) of-block in
       let entry =
-      (λ j. getD (numbers rest j) (there j) 0) ∙ ap (λ k. getD (P ++ E) (k + i) 0) (sym long-P) ∙ getD-append-add P E i 0 ∙ getD-map-rangeFrom (λ b. shareOf es os b .entry) 0 1 count i (omega arith) ∙ ap (λ b. shareOf es os b .entry) of-block in
+      (λ j. getD (numbers rest j) (there j) 0) ∙ ap (λ k. getD (P ++ E) (k + i) 0) (sym (length-parties count es os)) ∙ getD-append-add P E i 0 ∙ getD-map-rangeFrom (λ b. shareOf es os b .entry) 0 1 count i (omega arith) ∙ ap (λ b. shareOf es os b .entry) of-block in
       λ j. record { party = party j; entry = entry j }
 
   -- ── What a share says ─────────────────────────────────────────────────────────────────────────────────────────────────────
@@ -149,7 +140,7 @@ module _ (file : List ℕ) (count room : ℕ) (made : Sheeted file count room) w
     where
       go : (l : List ℕ) → shareBy es l .party ≡ 255 → shareBy es l .entry ≡ 0
       go [] none = refl
-      go (at ∷ l) none = absurd (omega (arith, party-most at, none))
+      go (at ∷ l) none = absurd (omega (arith, party-small at, none))
 
   -- a block with a party was answered by the entry that is named
   task-of-share : (block : ℕ) → (shareOf es os block .party ≡ 255 → ⊥) → TaskAt file (shareOf es os block .entry) block × (partyNumber (getD es (shareOf es os block .entry) Drain) ≡ shareOf es os block .party)
@@ -170,7 +161,7 @@ module _ (file : List ℕ) (count room : ℕ) (made : Sheeted file count room) w
         once = once;
         not-given = λ block within none at task.
             let party = sym none ∙ ap (λ h. h .party) (share-told rest block within ∙ share-of-task at block task) in
-            omega (arith, party, party-most at);
+            omega (arith, party, party-small at);
         no-entry = λ block within none.
             ap (λ h. h .entry) (share-told rest block within) ∙ none-no-entry block (sym (ap (λ h. h .party) (share-told rest block within)) ∙ none);
         given = λ block within some. subst (Given block) (sym (share-told rest block within)) (task-of-share block (λ none. some (ap (λ h. h .party) (share-told rest block within) ∙ none)));
@@ -191,5 +182,5 @@ module _ (file : List ℕ) (count room : ℕ) (made : Sheeted file count room) w
 
 pub every-sheet-tells : EverySheetTells
 every-sheet-tells file count buffer n written =
-    let made = written-sheeted file count (length buffer) n written in
+    let made = written-checked file count (length buffer) n written in
     subst (SheetFacts file count) (sym (ap (bufferIf (sheetOf count (scheduleIn file) (outcomesIn file)) buffer) written)) (tells file count (length buffer) made (drop (0 + length (sheetOf count (scheduleIn file) (outcomesIn file))) buffer))

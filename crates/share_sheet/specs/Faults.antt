@@ -1,5 +1,5 @@
 -- What is refused, and for what. Renders the checks of request 2, in 02, one by one and without their order; the reader's are those of `schedule`. `Sheet` says which of several faults is told; here stands that what is told is a fault, that what has a fault is
--- refused, and that a refusal leaves the lent buffer as it was. BLOCK is said a second time here, in other words. Proved in `proofs/Faults.antt`. At the end stands that the first wrong begin put is told, exactly when there is one.
+-- refused, that a refusal leaves the lent buffer as it was, and that a sheet leaves what lies beyond it. BLOCK is said a second time here, in other words. Proved in `proofs/Faults.antt`. At the end stands that the first wrong begin put is told, exactly when there is one.
 use mathlib.Core.Path.{_≡_}
 use mathlib.Core.Bool.{Bool, true, false, cond, not, _&&_, _||_}
 use mathlib.Core.List.{List, [], _∷_}
@@ -15,7 +15,7 @@ use Rattle.schedule.specs.Format.{sizesIn}
 use Rattle.schedule.specs.Run.{scheduleIn}
 use Rattle.share_sheet.specs.Types.{Block, Check, Drain, Entry, Failed, Passed, Refusal, Sheet, Written}
 use Rattle.share_sheet.specs.declared.sheet.Sheet.the-variants as sheet
-use Rattle.share_sheet.specs.Sheet.{checkBlocks, sheetAfter, sheetAnswer, sheetLength}
+use Rattle.share_sheet.specs.Sheet.{checkBlocks, sheetAfter, makeSheet, sheetLength}
 
 -- the entry at a place is a begin put with this operand
 abbrev pub putsAt : List Entry → ℕ → ℕ → Bool
@@ -45,17 +45,17 @@ refusalInSheet (sheet.Refused r) = r ∷ []
 
 -- a sheet is refused only for a fault that there is, and never written where there is one; `share_sheet` promises it
 abbrev pub SheetRefusesFaults : Type 0
-SheetRefusesFaults = (file : List ℕ) (count room : ℕ) → Refuses (sheetHas file count room) (refusalInSheet (sheetAnswer file count room))
+SheetRefusesFaults = (file : List ℕ) (count room : ℕ) → Refuses (sheetHas file count room) (refusalInSheet (makeSheet file count room))
 
 -- what is refused leaves the lent buffer as it was
 abbrev pub RefusedSheetUntouched : Type 0
 RefusedSheetUntouched =
-    (file : List ℕ) (count : ℕ) (buffer : List ℕ) (r : Refusal) → sheetAnswer file count (length buffer) ≡ sheet.Refused r → sheetAfter file count buffer ≡ buffer
+    (file : List ℕ) (count : ℕ) (buffer : List ℕ) (r : Refusal) → makeSheet file count (length buffer) ≡ sheet.Refused r → sheetAfter file count buffer ≡ buffer
 
 -- what lies beyond a sheet that is written stays as it was
 abbrev pub BeyondUntouched : Type 0
 BeyondUntouched =
-    (file : List ℕ) (count : ℕ) (buffer : List ℕ) (n : ℕ) → sheetAnswer file count (length buffer) ≡ Written n → drop n (sheetAfter file count buffer) ≡ drop n buffer
+    (file : List ℕ) (count : ℕ) (buffer : List ℕ) (n : ℕ) → makeSheet file count (length buffer) ≡ Written n → drop n (sheetAfter file count buffer) ≡ drop n buffer
 
 -- ── The first wrong begin put ───────────────────────────────────────────────────────────────────────────────────────────────
 

@@ -1,4 +1,4 @@
--- What the functions that check blocks and fill a sheet promise each other. Nothing here is of the papers: `Sheet` says what a sheet is, and `proofs/Laws` has that it is filled so.
+-- What the functions that check blocks and fill a sheet promise each other. Nothing here is of the papers: `Sheet` says what a sheet is; that it is filled so is proved in `proofs/Laws`.
 use mathlib.Core.Path.{_≡_}
 use mathlib.Core.Bool.{Bool, true, false, cond, not, _||_}
 use mathlib.Core.List.{List, [], _∷_}
@@ -13,7 +13,7 @@ use Rattle.share_sheet.specs.Sheet.{gives}
 
 -- ── Which blocks are used ───────────────────────────────────────────────────────────────────────────────────────────────────
 
--- the number of a put that is begun, in a list of at most one, is wrong by marks that say of each number whether it is used
+-- whether the number that an entry begins to put, in a list of at most one, is wrong, by marks that say which numbers are used
 abbrev pub wrongByMarks : ℕ → List Bool → List ℕ → Bool
 wrongByMarks count marks [] = false
 wrongByMarks count marks (x ∷ l) = not (within 1 count x) || getD marks x false
@@ -25,14 +25,14 @@ marked (x ∷ l) marks = set marks x true
 
 -- ── Who was given which ─────────────────────────────────────────────────────────────────────────────────────────────────────
 
--- a list of something for each block, the first block's first, with what an outcome's number and value say of one
+-- a list with one number for each block, after an outcome with this number and value: TASK sets that of its block
 abbrev pub noted : ℕ → ℕ → ℕ → List ℕ → List ℕ
 noted number block what l = cond (eqb number 17) (set l (block - 1) what) l
 
--- the lines of a trace are those of these outcomes
-pub record TraceOf (os : List Outcome) (trace : List ℕ) : Type 0 where
-  pub long : traceLength (length os) ≤ length trace
-  pub lines : (at : ℕ) → at < length os → lineIn (length os) trace at ≡ lineOf (getD os at Moved)
+-- the lines of a trace of so many entries are those of these outcomes
+pub record TraceOf (entries : ℕ) (os : List Outcome) (trace : List ℕ) : Type 0 where
+  pub long : traceLength entries ≤ length trace
+  pub lines : (at : ℕ) → at < entries → lineIn entries trace at ≡ lineOf (getD os at Moved)
 
 -- every entry's party fits a byte
 abbrev pub PartiesFit : List Entry → Type 0

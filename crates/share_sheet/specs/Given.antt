@@ -12,14 +12,14 @@ use Rattle.schedule.specs.Format.{decode, entriesIn, sizesIn}
 use Rattle.schedule.specs.Run.{outcomesIn, scheduleIn}
 use Rattle.schedule.specs.Trace.{lineIn, traceOf}
 use Rattle.share_sheet.specs.Types.{Drain, Sheet, Written}
-use Rattle.share_sheet.specs.Sheet.{Share, sheetAfter, sheetAnswer, sheetLayout}
+use Rattle.share_sheet.specs.Sheet.{Share, sheetAfter, makeSheet, sheetLayout}
 
 -- the trace of the file's run has TASK with this number at this entry
 pub record TaskAt (file : List ℕ) (at block : ℕ) : Type 0 where
   pub there : at < entriesIn file
   pub line : lineIn (entriesIn file) (traceOf (outcomesIn file)) at ≡ record { number = 17; value = block }
 
--- what the bytes of a sheet of so many blocks say of a block: of the numbers in them 0 is the count, b is the party of block b, and count + b its entry
+-- what the bytes of a sheet of so many blocks say of a block: of the numbers in them, number 0 is the count, number b the party of block b, and number count + b its entry
 abbrev pub shareIn : ℕ → List ℕ → ℕ → Share
 shareIn count sheet block = record { party = getD (decode (sheetLayout count) sheet) block 0; entry = getD (decode (sheetLayout count) sheet) (count + block) 0 }
 
@@ -48,4 +48,4 @@ SheetTells file count sheet answer = (n : ℕ) → answer ≡ Written n → Shee
 
 -- Proved in `proofs/Given.antt`.
 abbrev pub EverySheetTells : Type 0
-EverySheetTells = (file : List ℕ) (count : ℕ) (buffer : List ℕ) → SheetTells file count (sheetAfter file count buffer) (sheetAnswer file count (length buffer))
+EverySheetTells = (file : List ℕ) (count : ℕ) (buffer : List ℕ) → SheetTells file count (sheetAfter file count buffer) (makeSheet file count (length buffer))

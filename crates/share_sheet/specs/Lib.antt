@@ -1,4 +1,4 @@
--- What the promise about share sheets says. "02" is the list of change requests; share sheets are its request 2. The files stand in reading order; `sheetAnswer` in `Sheet` is what `share_sheet` answers, and
+-- What the promise about share sheets says. "02" is the list of change requests; share sheets are its request 2. The files stand in reading order; `makeSheet` in `Sheet` is what `share_sheet` answers, and
 -- `sheetAfter` what lent memory holds afterwards.
 --
 -- files that are read, and their runs   Reader, Run, of `schedule`

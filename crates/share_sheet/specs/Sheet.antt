@@ -57,9 +57,16 @@ sheetLayout count = 1 ∷ arrays count
 abbrev pub sheetLength : ℕ → ℕ
 sheetLength count = 1 + 5 * count
 
+-- the party and the entry of each block
+
+abbrev pub partiesOf : ℕ → List Entry → List Outcome → List ℕ
+partiesOf count es os = map (λ b. shareOf es os b .party) (blocks count)
+
+abbrev pub placesOf : ℕ → List Entry → List Outcome → List ℕ
+placesOf count es os = map (λ b. shareOf es os b .entry) (blocks count)
+
 abbrev pub sheetOf : ℕ → List Entry → List Outcome → List ℕ
-sheetOf count es os =
-    encode (sheetLayout count) (count ∷ (map (λ b. shareOf es os b .party) (blocks count) ++ map (λ b. shareOf es os b .entry) (blocks count)))
+sheetOf count es os = encode (sheetLayout count) (count ∷ (partiesOf count es os ++ placesOf count es os))
 
 -- ── Checks ──────────────────────────────────────────────────────────────────────────────────────────────────────────────────
 
@@ -105,8 +112,8 @@ answerBy count Passed = Written (sheetLength count)
 answerBy count (Failed r) = sheet.Refused r
 
 -- the answer for a file, a count and a buffer of so many bytes: how many bytes the sheet has, or the refusal
-abbrev pub sheetAnswer : List ℕ → ℕ → ℕ → Sheet
-sheetAnswer file count room = answerBy count (first (sheetChecks file count room))
+abbrev pub makeSheet : List ℕ → ℕ → ℕ → Sheet
+makeSheet file count room = answerBy count (first (sheetChecks file count room))
 
 abbrev pub bufferIf : List ℕ → List ℕ → Sheet → List ℕ
 bufferIf new buffer (Written n) = overwritten 0 new buffer
@@ -114,7 +121,7 @@ bufferIf new buffer (sheet.Refused r) = buffer
 
 -- what the buffer holds afterwards: the sheet and, beyond it, what it held; if refused, all that it held
 abbrev pub sheetAfter : List ℕ → ℕ → List ℕ → List ℕ
-sheetAfter file count buffer = bufferIf (sheetOf count (scheduleIn file) (outcomesIn file)) buffer (sheetAnswer file count (length buffer))
+sheetAfter file count buffer = bufferIf (sheetOf count (scheduleIn file) (outcomesIn file)) buffer (makeSheet file count (length buffer))
 
 -- The length that 02 gives as a number is the layout's. Proved in `proofs/Laws/Sheet.antt`.
 abbrev pub SheetLength : Type 0

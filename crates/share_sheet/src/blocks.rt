@@ -37,7 +37,8 @@ fn uses_wrongly(marks: &mut [bool], count: u32, entry: Entry) -> bool
     false
 }
 
-// Whether every begin put of a schedule, given by the two parts of its file, is of one of so many blocks that no earlier one is of. The first that is not decides, whatever its outcome would be.
+// Whether each begin put of a schedule, given by the two parts of its file, is of one of so many blocks, and of none that an earlier one is of. The first
+// that is not decides, whatever its outcome would be.
 pub(crate) fn check_blocks(sizes: Sizes, kinds: &[u8], operands: &[u8], count: u32) -> Check
     requires { ⌜ count ≤ 255 ⌝ }
     ensures { λ r. ⌜ r ≡ checkBlocks count (entriesOf sizes (now (kinds .entry)) (wordsIn (now (operands .entry)))) ⌝ }

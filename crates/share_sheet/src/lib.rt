@@ -7,11 +7,11 @@
 //     for each block, its party    one byte: 0 for the worker, 1 + i for thief i, 255 for a block that was not given
 //     for each block, its entry    four bytes, the least significant first; 0 for a block that was not given
 //
-// It makes no sheet of a schedule whose margin is short, or whose puts are not of blocks, each once: a refusal says which
-// rule is broken and where, and touches none of the lent memory. So no two entries claim one place of a sheet, and its promise says so, by
-// demand 3 (`specs/Given.antt`). The schedule is run once, into a trace of its own. Reading order:
+// It makes no sheet of a schedule whose margin is short, or that begins to put what is no block, or a block twice; then a refusal says which
+// rule is broken and where, and none of the lent memory is touched. Of every other schedule no two entries claim one place of the sheet: its
+// promise says so, by demand 3 (`specs/Given.antt`). The schedule is run once, into a trace of its own. Reading order:
 //
-// - `blocks`: the first begin put of what is no block, or no fresh one;
+// - `blocks`: the first begin put of what is no block, or of a block that is used;
 // - `shares`: what a trace says of each block;
 // - `sheet`: the sheet as a whole.
 mod blocks;

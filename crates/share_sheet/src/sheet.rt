@@ -11,7 +11,7 @@ ghost use Rattle.schedule.specs.Format.{wordsIn};
 ghost use Rattle.schedule.specs.Run.{entriesOf, outcomesFrom};
 ghost use Rattle.share_sheet.specs.Faults.{refusalInSheet, sheetHas};
 ghost use Rattle.share_sheet.specs.Given.{SheetTells};
-ghost use Rattle.share_sheet.specs.Sheet.{checksAfterReading, sheetAfter, sheetAnswer, sheetOf};
+ghost use Rattle.share_sheet.specs.Sheet.{checksAfterReading, sheetAfter, makeSheet, sheetOf};
 ghost use Rattle.share_sheet.specs.Types.{Passed};
 use crate::blocks::check_blocks;
 use crate::shares::note_shares;
@@ -29,8 +29,11 @@ use terms::Refusal;
 use terms::Sizes;
 use terms::within;
 
-// The most blocks that a sheet has.
+// The most blocks that a sheet can have.
 const MOST_BLOCKS: usize = 255;
+
+// The party of a block that was not given.
+const NOT_GIVEN: u8 = 255;
 
 // The answer of making a sheet.
 pub enum Sheet {
@@ -68,7 +71,7 @@ fn put_sheet(sheet: &mut [u8], sizes: Sizes, kinds: &[u8], operands: &[u8], coun
 {
     let mut trace = [0; LONGEST_TRACE];
     obey_entries(sizes, kinds, operands, &mut trace);
-    let mut parties = [255; MOST_BLOCKS];
+    let mut parties = [NOT_GIVEN; MOST_BLOCKS];
     let mut entries = [0; MOST_BLOCKS];
     note_shares(&mut parties, &mut entries, sizes, kinds, operands, &trace);
     sheet[0] = count as u8;
@@ -79,7 +82,7 @@ fn put_sheet(sheet: &mut [u8], sizes: Sizes, kinds: &[u8], operands: &[u8], coun
 // Makes the share sheet of a schedule file and a count of blocks, in a buffer. Nothing is run and nothing written before everything
 // has been checked; beyond the sheet the buffer stays as it was.
 pub fn share_sheet(file: &[u8], count: u32, sheet: &mut [u8]) -> Sheet
-    ensures { λ r. ⌜ r ≡ sheetAnswer (now (file .entry)) count (length (now (sheet .entry))) ⌝ }
+    ensures { λ r. ⌜ r ≡ makeSheet (now (file .entry)) count (length (now (sheet .entry))) ⌝ }
     ensures { λ _. ⌜ now (sheet .exit) ≡ sheetAfter (now (file .entry)) count (now (sheet .entry)) ⌝ }
     ensures { λ r. ⌜ SheetTells (now (file .entry)) count (now (sheet .exit)) r ⌝ }
     ensures { λ r. ⌜ Refuses (sheetHas (now (file .entry)) count (length (now (sheet .entry)))) (refusalInSheet r) ⌝ }

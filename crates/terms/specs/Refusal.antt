@@ -16,7 +16,7 @@ numberOf Room = 8
 numberOf Margin = 9
 numberOf (Block entry) = 10
 
--- the place of each refusal: that of the size in the table, which for a share sheet's count is 7 and for MARGIN the margin's; or the entry; else 0
+-- the place of each refusal: a size's by the table, MARGIN having the margin's, and 7 for the count of a share sheet; or the entry; else 0
 abbrev pub placeOf : Refusal → ℕ
 placeOf (Size place) = place
 placeOf Short = 0

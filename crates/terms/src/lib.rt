@@ -1,5 +1,5 @@
-// The terms that the libraries above share: the paper's tables, as plain data with total functions. They are the sizes of a
-// schedule, its entries, the outcomes of an entry, why a file is refused, and the totals of a run, in the paper's numbers.
+// The terms that the libraries above share: the papers' tables, as plain data with total functions. They are the sizes of a
+// schedule, its entries, the outcomes of an entry, why a file is refused, and the totals of a run, in the papers' numbers.
 // No function here asks anything of its caller. Reading order:
 //
 // - `sizes`: the six sizes of a schedule, their ranges, and the margin;

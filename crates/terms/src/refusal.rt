@@ -3,7 +3,7 @@ ghost use Rattle.terms.specs.Refusal.{numberOf, placeOf};
 
 // Why a file is not read, or not written, or no sheet made of it: it breaks a rule, or the memory that was lent is too small.
 pub enum Refusal {
-    // SIZE: the size at this place, counted from 0, is out of its range.
+    // SIZE: the size at this place, counted from 0, is out of its range; 7 is a share sheet's count.
     Size(usize),
     // SHORT: the file, or one of two parallel arrays, has another length than it should have.
     Short,

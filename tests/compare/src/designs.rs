@@ -10,7 +10,7 @@ use crate::sheets::{self, sheet_room, MOST_BLOCKS};
 use crate::tally::{Count, Tally};
 use crate::{generate, plain};
 
-/// Puts, out of a thousand, that another begins to disturb.
+/// Begin puts, out of a thousand, that another follows at once, out of place.
 const OUT_OF_PLACE: u32 = 30;
 /// Bad blocks that each design is given beside one of every fault, because a
 /// block can be bad in several ways.

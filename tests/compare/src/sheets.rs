@@ -45,7 +45,7 @@ pub fn assemble(shares: &[Share]) -> Vec<u8> {
 
 /// The shares in a sheet of the length that its count asks for.
 fn shares(sheet: &[u8]) -> Vec<Share> {
-    let (parties, entries) = sheet[1..].split_at(sheet.len() / 5);
+    let (parties, entries) = sheet[1..].split_at(usize::from(sheet[0]));
     let entries = entries.chunks_exact(4).map(number_at);
     parties.iter().copied().zip(entries).collect()
 }

@@ -16,7 +16,7 @@ use Rattle.terms.proofs.Laws.Sizes.{within-bounds}
 use Rattle.terms.proofs.Laws.Sums.{adds-occurrences, concatMap-append}
 use Rattle.properties.specs.ExactlyOnce.{numberPut}
 use Rattle.schedule.specs.Check.{failIf, first}
-use Rattle.schedule.proofs.Laws.Check.{first-more, first-stops}
+use Rattle.schedule.proofs.Laws.Check.{failIf-passed, first-more, first-stops, range-passed}
 use Rattle.share_sheet.specs.Types.{BeginPut, BeginSteal, BeginTake, Block, Check, ClientStore, Drain, Entry, Failed, Passed, ThiefStep, WorkerStep}
 use Rattle.share_sheet.specs.Filling.{marked, wrongByMarks}
 use Rattle.share_sheet.specs.Sheet.{checkBlocks, putsUpTo, wrongBlock, wrongPut}
@@ -88,8 +88,12 @@ marks-more marks used (ThiefStep i) m = rw (append-nil used) m
 -- ── The loop ────────────────────────────────────────────────────────────────────────────────────────────────────────────────
 
 module _ (count : ℕ) (es : List Entry) where
-  abbrev check : ℕ → Check
+  abbrev pub check : ℕ → Check
   check at = failIf (wrongBlock count es at) (Block at)
+
+  -- where none is wrong, each is right
+  pub right-at : checkBlocks count es ≡ Passed → (at : ℕ) → at < length es → wrongBlock count es at ≡ false
+  right-at right at there = failIf-passed (wrongBlock count es at) (Block at) (range-passed check (length es) right at there)
 
   -- no entry before a place is wrong, and the marks are of what these use
   pub record RightBefore (marks : List Bool) (at : ℕ) : Type 0 where

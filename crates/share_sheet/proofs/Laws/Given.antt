@@ -1,4 +1,4 @@
--- Laws of what a run gives, where each put is of another block: from demand 3, each TASK is of a block that was put and STORED before, and no two are of one.
+-- Laws of what a run gives, where each put is of a block of its own: from demand 3, each TASK is of a block that was put and STORED before, and no two are of one.
 use mathlib.Core.Path.{_≡_, refl, ap, sym, _∙_, subst}
 use mathlib.Core.Bool.{Bool, true, false, cond, not, _||_, false≢true}
 use mathlib.Core.List.{List, [], _∷_, _++_, append-nil, map}
@@ -22,16 +22,14 @@ use Rattle.machine.specs.Machine.{fresh}
 use Rattle.machine.specs.Obey.{obey, outcomesOf}
 use Rattle.properties.specs.ExactlyOnce.{given, held, numberPut, standing, stored, storedPuts}
 use Rattle.properties.proofs.ExactlyOnce.{accounted-by-number, stored-put}
-use Rattle.schedule.specs.Check.{failIf}
 use Rattle.schedule.specs.Format.{allBelow}
 use Rattle.schedule.proofs.Laws.Bytes.{each-below}
-use Rattle.schedule.proofs.Laws.Check.{failIf-passed, range-passed}
 use Rattle.schedule.proofs.Laws.Run.{length-outcomesOf}
-use Rattle.share_sheet.specs.Types.{BeginPut, BeginSteal, BeginTake, Block, ClientStore, Drain, Entry, Passed, Sizes, ThiefStep, WorkerStep}
+use Rattle.share_sheet.specs.Types.{BeginPut, BeginSteal, BeginTake, ClientStore, Drain, Entry, Passed, Sizes, ThiefStep, WorkerStep}
 use Rattle.share_sheet.specs.Types.{Outcome, Moved, Place, Early, Wait, Stored, Task, Empty, Abort, Full, End}
 use Rattle.share_sheet.specs.Filling.{GivenOnce}
-use Rattle.share_sheet.specs.Sheet.{checkBlocks, gives, putsUpTo, wrongBlock, wrongPut}
-use Rattle.share_sheet.proofs.Laws.Blocks.{puts-more}
+use Rattle.share_sheet.specs.Sheet.{checkBlocks, gives, putsUpTo, wrongPut}
+use Rattle.share_sheet.proofs.Laws.Blocks.{puts-more, right-at}
 
 -- an outcome gives a block exactly if it is TASK with it
 pub gives-task : (x : ℕ) (o : Outcome) → gives x o ≡ true → o ≡ Task x
@@ -119,7 +117,7 @@ module _ (s : Sizes) (es : List Entry) (count : ℕ) (ranged : sizesInRange s �
         go : (inside : Bool) → ltb n (length es) ≡ inside → P (putsUpTo n es) → P (putsUpTo (suc n) es)
         go true e p =
             let there = ltb-true n (length es) e in
-            let fine = failIf-passed (wrongBlock count es n) (Block n) (range-passed (λ at. failIf (wrongBlock count es at) (Block at)) (length es) right n there) in
+            let fine = right-at count es right n there in
             subst P (sym (puts-more es n there) ∙ ap (λ k. putsUpTo k es) (add-one n)) (with-entry (putsUpTo n es) (getD es n Drain) fine p)
         go false e p = let past = ltb-false n (length es) e in subst (λ l. P (concatMap numberPut l)) (take-whole es n (suc n) past (omega arith)) p
 

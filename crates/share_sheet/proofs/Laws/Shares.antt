@@ -19,26 +19,26 @@ use Rattle.number.specs.Number.{overwritten, wordAt}
 use Rattle.number.proofs.Laws.Overwritten.{length-overwritten}
 use Rattle.schedule.specs.Format.{allBelow}
 use Rattle.schedule.specs.Run.{outcomesFrom}
-use Rattle.schedule.specs.Trace.{lineIn, lineOf, traceLength, traceOf}
-use Rattle.schedule.proofs.Laws.Run.{length-outcomesFrom}
-use Rattle.schedule.proofs.Laws.Trace.{length-traceOf, lineIn-number, lineIn-value, lineIn-written}
+use Rattle.schedule.specs.Trace.{traceLength, traceOf}
+use Rattle.schedule.proofs.Laws.Run.{length-outcomesFrom, line-there}
+use Rattle.schedule.proofs.Laws.Trace.{length-traceOf, lineIn-number, lineIn-value}
 use Rattle.share_sheet.specs.Types.{Drain, Entry, Moved, Outcome, Sizes}
 use Rattle.share_sheet.specs.Filling.{GivenOnce, TraceOf, noted}
 use Rattle.share_sheet.specs.Sheet.{Share, blocks, gives, shareBy}
 
 -- ── Something for each block ────────────────────────────────────────────────────────────────────────────────────────────────
 
--- the same of all of them
+-- one number for every block
 map-constant : (v k n : ℕ) → map (λ b. v) (rangeFrom k n) ≡ replicate n v
 map-constant v k zero = refl
 map-constant v k (suc n) = ap (λ l. v ∷ l) (map-constant v (suc k) n)
 
--- the same of each, from a number on
+-- two functions that agree from a number on
 map-same : (g h : ℕ → ℕ) (k n : ℕ) → ((b : ℕ) → k ≤ b → g b ≡ h b) → map g (rangeFrom k n) ≡ map h (rangeFrom k n)
 map-same g h k zero same = refl
 map-same g h k (suc n) same = λ i. same k (omega arith) i ∷ map-same g h (suc k) n (λ b above. same b (omega arith)) i
 
--- something else of one
+-- two functions that agree but for one number
 map-but-one : (g h : ℕ → ℕ) (k n at : ℕ) → at < n → ((b : ℕ) → (b ≡ k + at → ⊥) → g b ≡ h b) → set (map g (rangeFrom k n)) at (h (k + at)) ≡ map h (rangeFrom k n)
 map-but-one g h k zero at there same = absurd (not-suc-le-zero there)
 map-but-one g h k (suc n) zero there same =
@@ -74,7 +74,7 @@ module _ (es : List Entry) (os : List Outcome) where
   giving-none zero b none = refl
   giving-none (suc n) b none = rw add-one at (giving-same n b (none n (omega arith)) ∙ giving-none n b (λ i below. none i (omega arith)))
 
-  -- nothing stands in two lists one behind the other where something stands in one
+  -- where two lists one behind the other are empty, each is
   both-none : (l m : List ℕ) → l ++ m ≡ [] → (l ≡ []) × (m ≡ [])
   both-none [] m e = (refl, e)
   both-none (x ∷ l) m e = absurd (let clash : _≡_ {A = ℕ} 0 1 = cc in omega arith)
@@ -173,21 +173,16 @@ given-wider count more os wider once =
 
 -- ── What is read of an entry ────────────────────────────────────────────────────────────────────────────────────────────────
 
-module _ (s : Sizes) (kinds operands trace : List ℕ) (is : TraceOf (outcomesFrom s kinds operands) trace) (at : ℕ) (there : at < length kinds) where
+module _ (s : Sizes) (kinds operands trace : List ℕ) (is : TraceOf (length kinds) (outcomesFrom s kinds operands) trace) (at : ℕ) (there : at < length kinds) where
   abbrev here-read : Outcome
   here-read = getD (outcomesFrom s kinds operands) at Moved
 
-  line-read : lineIn (length kinds) trace at ≡ lineOf here-read
-  line-read =
-      ap (λ n. lineIn n trace at) (sym (length-outcomesFrom s kinds operands)) ∙ is .lines at (omega (arith, length-outcomesFrom s kinds operands))
-
   -- the number and the value of its outcome
   pub number-read : getD trace (4 + at) 0 ≡ numberOf here-read
-  number-read = sym (lineIn-number (length kinds) trace at there) ∙ ap (λ l. l .number) line-read
+  number-read = sym (lineIn-number (length kinds) trace at there) ∙ ap (λ l. l .number) (is .lines at there)
 
   pub value-read : wordAt trace (4 + length kinds + 4 * at) ≡ valueOf here-read
-  value-read =
-      sym (lineIn-value (length kinds) trace at there (omega (arith, is .long, length-outcomesFrom s kinds operands))) ∙ ap (λ l. l .value) line-read
+  value-read = sym (lineIn-value (length kinds) trace at there (is .long)) ∙ ap (λ l. l .value) (is .lines at there)
 
   -- of a TASK, the value is a block
   pub block-read : (count number value : ℕ) → GivenOnce count (outcomesFrom s kinds operands) → number ≡ numberOf here-read → value ≡ valueOf here-read → number ≡ 17
@@ -198,9 +193,9 @@ module _ (s : Sizes) (kinds operands trace : List ℕ) (is : TraceOf (outcomesFr
       (λ i. eq-eqb (numberOf here-read) 17 (sym told ∙ task) i && eq-eqb (valueOf here-read) (valueOf here-read) refl i))
 
 -- the trace of a run, written over a buffer that has room for it
-pub trace-of : (os : List Outcome) (l : List ℕ) → allBelow 4294967296 (map valueOf os) ≡ true → traceLength (length os) ≤ length l → TraceOf os (overwritten 0 (traceOf os) l)
-trace-of os l fit room =
-    record {
-      long = subst (λ n. traceLength (length os) ≤ n) (sym (length-overwritten 0 (traceOf os) l (omega (arith, length-traceOf os)))) room;
-      lines = λ at there. lineIn-written os l at fit there;
-    }
+pub trace-of : (s : Sizes) (kinds operands l : List ℕ) → allBelow 4294967296 (map valueOf (outcomesFrom s kinds operands)) ≡ true → traceLength (length kinds) ≤ length l
+    → TraceOf (length kinds) (outcomesFrom s kinds operands) (overwritten 0 (traceOf (outcomesFrom s kinds operands)) l)
+trace-of s kinds operands l fit room =
+    let os = outcomesFrom s kinds operands in
+    let long = length-overwritten 0 (traceOf os) l (omega (arith, length-traceOf os, length-outcomesFrom s kinds operands)) in
+    record { long = subst (λ n. traceLength (length kinds) ≤ n) (sym long) room; lines = λ at there. line-there s kinds operands l fit at there }

@@ -2,7 +2,7 @@
 use mathlib.Core.Path.{ap, sym, _∙_}
 use borrow.Author.Needs.{needs}
 use Rattle.terms.proofs.Laws.Tests.{known}
-use Rattle.exports.specs.Answer.{sheetNumber}
+use Rattle.exports.specs.Answer.{sheetAnswer}
 use Rattle.exports.proofs.interface.rehearsal_share_sheet.Statement.{statement}
 use Rattle.exports.proofs.interface.rehearsal_share_sheet.Tie as tie
 
@@ -10,13 +10,13 @@ returns : tie.Need-returns
 returns c =
     let opened = c .before in
     let made = opened .before .before .before .before .share-sheet in
-    (sym (ap sheetNumber (known (made .ensures .0) (opened .made .given .1))), made .ensures .1 .0)
+    (sym (ap sheetAnswer (known (made .ensures .0) (opened .made .given .1))), made .ensures .1 .0)
 
 returns-2 : tie.Need-returns-2
 returns-2 c =
     let opened = c .before .before in
     let made = opened .before .before .before .before .share-sheet in
-    (c .answer-of .ensures ∙ sym (ap sheetNumber (known (made .ensures .0) (opened .made2 .given .1))), made .ensures .1 .0)
+    (c .answer-of .ensures ∙ sym (ap sheetAnswer (known (made .ensures .0) (opened .made2 .given .1))), made .ensures .1 .0)
 
 pub rehearsal-share-sheet-spec : {M : Type 1} → statement M
 rehearsal-share-sheet-spec =

@@ -37,7 +37,7 @@ few : (c : tie.Start Inv-loop μ-loop) → length (c .args .kinds .now) ≤ 4096
 few c = c .pre .0 .2
 
 long : (c : tie.Start Inv-loop μ-loop) → 4 + 5 * length (c .args .kinds .now) ≤ length (c .args .trace .now)
-long c = let a = c .args in omega (arith, c .pre .1 .0 .long, length-outcomesFrom (a .sizes) (a .kinds .now) (wordsIn (a .operands .now)))
+long c = c .pre .1 .0 .long
 
 -- both arrays have the same length
 as-long : (c : tie.Start Inv-loop μ-loop) → length (c .args .entries .now) ≡ length (c .args .parties .now)

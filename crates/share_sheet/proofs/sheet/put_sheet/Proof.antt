@@ -5,17 +5,17 @@ use native.Mathlib.Omega.{arith}
 use borrow.Author.Needs.{needs}
 use lib.ListN.{length, length-set, replicate, set, take}
 use lib.Seq.{length-take-le}
-use Rattle.terms.proofs.Laws.Sizes.{sizes-bounds, within-bounds}
+use Rattle.terms.proofs.Laws.Sizes.{within-bounds}
 use Rattle.number.specs.Number.{bytesPut, wordBytes}
 use Rattle.schedule.specs.Format.{wordsIn}
 use Rattle.schedule.specs.Run.{entriesOf, outcomesFrom}
 use Rattle.schedule.specs.Trace.{traceLength}
-use Rattle.schedule.proofs.Laws.Run.{fits-room, length-entriesUpTo, length-outcomesFrom, longest-fits, longest-put, party-there}
+use Rattle.schedule.proofs.Laws.Run.{fits-room, length-entriesUpTo, longest-fits, longest-put}
 use Rattle.share_sheet.specs.Filling.{PartiesFit, TraceOf}
 use Rattle.share_sheet.specs.Sheet.{shareOf}
 use Rattle.share_sheet.proofs.Laws.Given.{block-values-fit, given-once}
 use Rattle.share_sheet.proofs.Laws.Shares.{given-wider, trace-of}
-use Rattle.share_sheet.proofs.Laws.Sheet.{Fit, passed-fit, sheet-written, take-blocks}
+use Rattle.share_sheet.proofs.Laws.Sheet.{Fit, party-most, passed-fit, sheet-written, take-blocks}
 use Rattle.share_sheet.proofs.sheet.put_sheet.Statement.{statement}
 use Rattle.share_sheet.proofs.sheet.put_sheet.Tie as tie
 
@@ -33,7 +33,7 @@ short c = let a = c .args in omega (arith, c .pre .0 .1, length-entriesUpTo (a .
 parties-small : (c : tie.Start) → let a = c .args in PartiesFit (entriesOf (a .sizes) (a .kinds .now) (wordsIn (a .operands .now)))
 parties-small c at =
     let a = c .args in
-    omega (arith, party-there (a .sizes) (a .kinds .now) (wordsIn (a .operands .now)) (c .pre .0 .2) at, sizes-bounds (a .sizes) (c .pre .0 .0) .thieves-most)
+    omega (arith, party-most (a .sizes) (a .kinds .now) (wordsIn (a .operands .now)) (c .pre .0 .0) (c .pre .0 .2) at)
 
 -- ── The run ─────────────────────────────────────────────────────────────────────────────────────────────────────────────────
 
@@ -49,11 +49,11 @@ note-shares-requires c κs =
     let n = length (a .kinds .now) in
     let few-entries = start .pre .0 .1 in
     let values = block-values-fit (a .sizes) es (a .count) (start .pre .0 .0) (fit start .enough) (short start) (fit start .right) (few start) in
-    let room : traceLength (length os) ≤ length zeros = omega (arith, fits-room n (length zeros) (longest-fits n few-entries), length-outcomesFrom (a .sizes) (a .kinds .now) operands) in
+    let room : traceLength n ≤ length zeros = fits-room n (length zeros) (longest-fits n few-entries) in
     let trace = ran .obey-entries .ensures .1 ∙ longest-put (a .sizes) (a .kinds .now) operands few-entries in
     let once = given-once (a .sizes) es (a .count) (start .pre .0 .0) (fit start .enough) (short start) (fit start .right) in (
       (refl, refl, few-entries),
-      (subst (TraceOf os) (sym trace) (trace-of os zeros values room), (parties-small start, given-wider (a .count) 255 os (few start) once)),
+      (subst (TraceOf n os) (sym trace) (trace-of (a .sizes) (a .kinds .now) operands zeros values room), (parties-small start, given-wider (a .count) 255 os (few start) once)),
     )
 
 -- ── The sheet ───────────────────────────────────────────────────────────────────────────────────────────────────────────────

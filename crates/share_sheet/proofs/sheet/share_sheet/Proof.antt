@@ -11,7 +11,7 @@ use Rattle.schedule.specs.Run.{outcomesIn, scheduleIn}
 use Rattle.schedule.proofs.Laws.Run.{PartsOf, parts-obeyed}
 use Rattle.share_sheet.specs.Types.{Accepted}
 use Rattle.share_sheet.specs.declared.sheet.Sheet.the-variants as sheet
-use Rattle.share_sheet.specs.Sheet.{bufferIf, checksAfterReading, sheetAnswer, answerBy, sheetOf}
+use Rattle.share_sheet.specs.Sheet.{bufferIf, checksAfterReading, makeSheet, answerBy, sheetOf}
 use Rattle.share_sheet.proofs.Faults.{sheet-promises}
 use Rattle.share_sheet.proofs.Laws.Sheet.{behind-decides, file-decides}
 use Rattle.share_sheet.proofs.sheet.share_sheet.Statement.{statement}
@@ -48,7 +48,7 @@ parts c =
 -- what the checks behind found decides
 decided : (c : tie.After-check-sheet)
     → let a = c .before .before .before .before .before .before .before .before .before .args in
-    sheetAnswer (a .file .now) (a .count) (length (a .sheet .now)) ≡ answerBy (a .count) (c .check-sheet .result)
+    makeSheet (a .file .now) (a .count) (length (a .sheet .now)) ≡ answerBy (a .count) (c .check-sheet .result)
 decided c =
     let opened = c .before .before .before .before in
     let a = opened .before .before .before .before .before .args in
