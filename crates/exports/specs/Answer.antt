@@ -12,7 +12,7 @@ use Rattle.writer.specs.declared.writer.Writing.the-variants as writing
 use Rattle.schedule.specs.Reader.{readFile, refusalOf}
 use Rattle.schedule.specs.Run.{runFile, traceAfter}
 use Rattle.number.specs.Number.{wordPut}
-use Rattle.exports.specs.Types.{Accepted, Alike, FirstRefused, Likeness, NotAlike, Ran, Reading, Refusal, Room, Running, SecondRefused, Sheet, Sizes, Tally, Writing, Written}
+use Rattle.exports.specs.Types.{Accepted, Alike, FirstRefused, Likeness, NotAlike, Ran, Reading, Refusal, Room, Running, SecondRefused, Sheet, Sizes, Summary, Writing, Written}
 
 -- a refusal as one number of 64 bits: its number in the upper half, and in the lower the 32 lowest bits of its place. Places are below 4,096, so that is the place.
 abbrev pub refusalAnswer : Refusal → ℕ
@@ -44,18 +44,18 @@ sizesAfter (reading.Refused r) bytes = bytes
 
 -- ── Running ─────────────────────────────────────────────────────────────────────────────────────────────────────────────────
 
--- the answer of a run into a trace buffer of so many bytes; 12 bytes are to be lent for the totals, or nothing is run
+-- the answer of a run into a trace buffer of so many bytes; 16 bytes are to be lent for the totals, or nothing is run
 abbrev pub runInto : List ℕ → ℕ → List ℕ → Running
-runInto file room totals = cond (tooFew 12 totals) (running.Refused (refusalOf (readFile file))) (runFile file room)
+runInto file room totals = cond (tooFew 16 totals) (running.Refused (refusalOf (readFile file))) (runFile file room)
 
 -- 0, or the refusal
 abbrev pub runningAnswer : Running → ℕ
 runningAnswer (Ran t) = 0
 runningAnswer (running.Refused r) = refusalAnswer r
 
--- three totals in the order of the program's last line
-abbrev pub totalsPut : Tally → List ℕ → List ℕ
-totalsPut t bytes = wordsPut 0 (t .given ∷ t .aborts ∷ t .waits ∷ []) bytes
+-- three totals and, of request 4 in 02, how far memory lagged at most, in the order of the program's last line
+abbrev pub totalsPut : Summary → List ℕ → List ℕ
+totalsPut t bytes = wordsPut 0 (t .tally .given ∷ t .tally .aborts ∷ t .tally .waits ∷ t .hidden ∷ []) bytes
 
 -- what the bytes that are lent for the totals hold afterwards, and what the trace buffer does
 abbrev pub totalsAfter : Running → List ℕ → List ℕ
@@ -63,7 +63,7 @@ totalsAfter (Ran t) bytes = totalsPut t bytes
 totalsAfter (running.Refused r) bytes = bytes
 
 abbrev pub traceInto : List ℕ → List ℕ → List ℕ → List ℕ
-traceInto file trace totals = cond (tooFew 12 totals) trace (traceAfter file trace)
+traceInto file trace totals = cond (tooFew 16 totals) trace (traceAfter file trace)
 
 -- ── Comparing ───────────────────────────────────────────────────────────────────────────────────────────────────────────────
 

@@ -11,7 +11,7 @@ use Rattle.terms.specs.declared.refusal.Refusal.the-variants.{Size, Short, Kind
 use Rattle.schedule.specs.Edges.{different, differentFile, example, exampleFile, exampleOperands}
 use Rattle.schedule.specs.Format.{sizeBytes}
 use Rattle.schedule.specs.Reader.{readFile}
-use Rattle.schedule.specs.Runs.{before, exampleTrace, file, twoTakesAndASteal}
+use Rattle.schedule.specs.Runs.{before, drains, exampleTrace, file, twoTakesAndASteal}
 use Rattle.comparison.specs.Alike.{likeness}
 use Rattle.share_sheet.specs.Sheet.{sheetAfter, makeSheet}
 use Rattle.share_sheet.specs.Sheets.{design, designSheet, enough}
@@ -44,6 +44,10 @@ holds (compares first second answer) = eqb (likenessAnswer (likeness first secon
 holds (writes s kinds operands room answer) = eqb (writingAnswer (writeFile s kinds operands room)) answer
 holds (shares file count buffer answer after) = eqb (sheetAnswer (makeSheet file count (length buffer))) answer && equal (sheetAfter file count buffer) after
 
+-- four small numbers in sixteen bytes
+abbrev pub fourWords : ℕ → ℕ → ℕ → ℕ → List ℕ
+fourWords a b c d = a ∷ 0 ∷ 0 ∷ 0 ∷ b ∷ 0 ∷ 0 ∷ 0 ∷ c ∷ 0 ∷ 0 ∷ 0 ∷ d ∷ 0 ∷ 0 ∷ 0 ∷ []
+
 abbrev pub table : List Row
 table =
     -- the number in the upper half, the place in the lower
@@ -61,14 +65,15 @@ table =
     ∷ reads exampleFile (before 23) 34359738368 (before 23)
     ∷ reads (exampleFile ++ (0 ∷ [])) (before 24) 8589934592 (before 24)
     ∷ reads [] (before 23) 8589934592 (before 23)
-    -- three totals in 12 bytes, and nothing in fewer; what is refused leaves trace and totals
-    ∷ runs exampleFile (before 34) (before 13) 0 (6 ∷ 0 ∷ 0 ∷ 0 ∷ []) (0 ∷ 0 ∷ 0 ∷ 0 ∷ 0 ∷ 0 ∷ 0 ∷ 0 ∷ 1 ∷ 0 ∷ 0 ∷ 0 ∷ before 1)
-    ∷ runs exampleFile (before 36) (before 13) 0 (exampleTrace ++ before 2) (0 ∷ 0 ∷ 0 ∷ 0 ∷ 0 ∷ 0 ∷ 0 ∷ 0 ∷ 1 ∷ 0 ∷ 0 ∷ 0 ∷ before 1)
-    ∷ runs (file (sized 4 2 0 2 1 0) twoTakesAndASteal) (before 139) (before 12) 0 (27 ∷ 0 ∷ 0 ∷ 0 ∷ []) (2 ∷ 0 ∷ 0 ∷ 0 ∷ 1 ∷ 0 ∷ 0 ∷ 0 ∷ 0 ∷ 0 ∷ 0 ∷ 0 ∷ [])
-    ∷ runs exampleFile (before 34) (before 11) 34359738368 (before 4) (before 11)
-    ∷ runs exampleFile (before 33) (before 12) 34359738368 (before 4) (before 12)
-    ∷ runs [] (before 34) (before 12) 8589934592 (before 4) (before 12)
-    ∷ runs [] (before 34) (before 11) 8589934592 (before 4) (before 11)
+    -- three totals and how far memory lagged in 16 bytes, and nothing in fewer; what is refused leaves trace and totals
+    ∷ runs exampleFile (before 34) (before 17) 0 (6 ∷ 0 ∷ 0 ∷ 0 ∷ []) (fourWords 0 0 1 0 ++ before 1)
+    ∷ runs exampleFile (before 36) (before 17) 0 (exampleTrace ++ before 2) (fourWords 0 0 1 0 ++ before 1)
+    ∷ runs (file (sized 4 2 0 1 1 0) twoTakesAndASteal) (before 139) (before 16) 0 (27 ∷ 0 ∷ 0 ∷ 0 ∷ []) (fourWords 3 0 0 2)
+    ∷ runs (file (sized 4 2 0 2 1 0) (twoTakesAndASteal ++ drains)) (before 149) (before 16) 0 (29 ∷ 0 ∷ 0 ∷ 0 ∷ []) (fourWords 2 1 0 2)
+    ∷ runs exampleFile (before 34) (before 15) 34359738368 (before 4) (before 15)
+    ∷ runs exampleFile (before 33) (before 16) 34359738368 (before 4) (before 16)
+    ∷ runs [] (before 34) (before 16) 8589934592 (before 4) (before 16)
+    ∷ runs [] (before 34) (before 15) 8589934592 (before 4) (before 15)
     -- alike, not alike, and refused, the first file first
     ∷ compares exampleFile exampleFile 1
     ∷ compares exampleFile differentFile 0

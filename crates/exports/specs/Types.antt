@@ -2,11 +2,11 @@
 pub use Rattle.terms.specs.declared.refusal.Refusal.{Refusal}
 pub use Rattle.terms.specs.declared.refusal.Refusal.the-variants.{Room}
 pub use Rattle.terms.specs.declared.sizes.Sizes.{Sizes}
-pub use Rattle.terms.specs.declared.tally.Tally.{Tally}
 pub use Rattle.schedule.specs.declared.reader.Reading.{Reading}
 pub use Rattle.schedule.specs.declared.reader.Reading.the-variants.{Accepted}
 pub use Rattle.schedule.specs.declared.runner.Running.{Running}
 pub use Rattle.schedule.specs.declared.runner.Running.the-variants.{Ran}
+pub use Rattle.schedule.specs.declared.runner.Summary.{Summary}
 pub use Rattle.comparison.specs.declared.likeness.Likeness.{Likeness}
 pub use Rattle.comparison.specs.declared.likeness.Likeness.the-variants.{Alike, NotAlike, FirstRefused, SecondRefused}
 pub use Rattle.writer.specs.declared.writer.Writing.{Writing}

@@ -2,9 +2,9 @@ ghost use mathlib.Core.Path.{_≡_};
 ghost use Rattle.exports.specs.Answer.{likenessAnswer, refusalAnswer, sizesPut, totalsPut};
 use comparison::Likeness;
 use number::put_word;
+use schedule::Summary;
 use terms::Refusal;
 use terms::Sizes;
-use terms::Tally;
 
 // A refusal as the number that an exported function answers.
 pub(crate) fn answer_of(refusal: Refusal) -> u64
@@ -38,11 +38,12 @@ pub(crate) fn put_sizes(bytes: &mut [u8], sizes: Sizes)
     put_word(bytes, 20, sizes.start);
 }
 
-// Puts three totals into lent memory.
-pub(crate) fn put_totals(bytes: &mut [u8], tally: Tally)
-    ensures { λ _. ⌜ now (bytes .exit) ≡ totalsPut tally (now (bytes .entry)) ⌝ }
+// Puts three totals, and how far memory lagged at most, into lent memory.
+pub(crate) fn put_totals(bytes: &mut [u8], summary: Summary)
+    ensures { λ _. ⌜ now (bytes .exit) ≡ totalsPut summary (now (bytes .entry)) ⌝ }
 {
-    put_word(bytes, 0, tally.given);
-    put_word(bytes, 4, tally.aborts);
-    put_word(bytes, 8, tally.waits);
+    put_word(bytes, 0, summary.tally.given);
+    put_word(bytes, 4, summary.tally.aborts);
+    put_word(bytes, 8, summary.tally.waits);
+    put_word(bytes, 12, summary.hidden);
 }

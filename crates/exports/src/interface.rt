@@ -41,21 +41,21 @@ pub extern "C" fn rehearsal_read(file: &[u8], sizes: &mut [u8]) -> u64
     entries as u64
 }
 
-// Runs a schedule file and writes its trace. Tells 0, and puts the totals, given, aborts and waits, into the 12 bytes that are lent for them; with fewer, it is ROOM, and
-// nothing is run.
+// Runs a schedule file and writes its trace. Tells 0, and puts the totals, given, aborts and waits, and beside them how far memory lagged at most, hidden, into the 16 bytes that are
+// lent for them; with fewer, it is ROOM, and nothing is run.
 #[no_mangle]
 pub extern "C" fn rehearsal_run(file: &[u8], trace: &mut [u8], totals: &mut [u8]) -> u64
     ensures { λ r. ⌜ r ≡ runningAnswer (runInto (now (file .entry)) (length (now (trace .entry))) (now (totals .entry))) ⌝ }
     ensures { λ _. ⌜ now (trace .exit) ≡ traceInto (now (file .entry)) (now (trace .entry)) (now (totals .entry)) ⌝ }
     ensures { λ _. ⌜ now (totals .exit) ≡ totalsAfter (runInto (now (file .entry)) (length (now (trace .entry))) (now (totals .entry))) (now (totals .entry)) ⌝ }
 {
-    if totals.len() < 12 {
+    if totals.len() < 16 {
         return answer_of(refusal_of(read(file)));
     }
     let running = run(file, trace);
     match running {
-        Running::Ran(tally) => {
-            put_totals(totals, tally);
+        Running::Ran(summary) => {
+            put_totals(totals, summary);
             0
         }
         Running::Refused(refusal) => answer_of(refusal),

@@ -1,4 +1,4 @@
--- What is printed for a file. Renders "The program's lines".
+-- What is printed for a file. Renders "The program's lines" and, of request 4 in 02, what the last line of "rehearse" gains at its end.
 use mathlib.Core.Bool.{cond}
 use mathlib.Core.List.{List, [], _∷_, _++_}
 use Prim.Native.Nat.{ℕ, _+_}
@@ -7,9 +7,8 @@ use Rattle.terms.specs.Refusal as refusal
 use Rattle.terms.specs.Sizes.{enoughMargin, marginInUse}
 use Rattle.schedule.specs.declared.reader.Reading.the-variants as reading
 use Rattle.schedule.specs.Reader.{readFile}
-use Rattle.schedule.specs.Run.{outcomesIn}
-use Rattle.schedule.specs.Totals.{tallyOf}
-use Rattle.lines.specs.Types.{Accepted, Outcome, Reading, Refusal, Sizes, Tally}
+use Rattle.schedule.specs.Run.{outcomesIn, summaryIn}
+use Rattle.lines.specs.Types.{Accepted, Outcome, Reading, Refusal, Sizes, Summary, Tally}
 use Rattle.lines.specs.Text.{ascii, decimal, line}
 
 -- whether the margin in use is at least the needed one
@@ -38,21 +37,25 @@ abbrev pub entryLines : ℕ → List Outcome → List ℕ
 entryLines at [] = []
 entryLines at (o ∷ os) = entryLine at o ++ entryLines (at + 1) os
 
--- the last line: three totals
-abbrev pub totalsLine : Tally → List ℕ
-totalsLine t = line (ascii "given" ∷ decimal (t .given) ∷ ascii "aborts" ∷ decimal (t .aborts) ∷ ascii "waits" ∷ decimal (t .waits) ∷ [])
+-- the words of 01's last line: three totals
+abbrev pub totalsWords : Tally → List (List ℕ)
+totalsWords t = ascii "given" ∷ decimal (t .given) ∷ ascii "aborts" ∷ decimal (t .aborts) ∷ ascii "waits" ∷ decimal (t .waits) ∷ []
+
+-- the last line of "rehearse": these and, at its end, how far memory lagged at most
+abbrev pub lastLine : Summary → List ℕ
+lastLine t = line (totalsWords (t .tally) ++ (ascii "hidden" ∷ decimal (t .hidden) ∷ []))
 
 -- the only line of a refused file
 abbrev pub refusalLine : Refusal → List ℕ
 refusalLine r = line (ascii "refused" ∷ decimal (refusal.numberOf r) ∷ ascii "place" ∷ decimal (refusal.placeOf r) ∷ [])
 
--- the lines of a run with these outcomes
-abbrev pub runLines : Sizes → List Outcome → List ℕ
-runLines s os = sizesLine s ++ entryLines 0 os ++ totalsLine (tallyOf os)
+-- the lines of a run with these outcomes, of which this is told
+abbrev pub runLines : Sizes → List Outcome → Summary → List ℕ
+runLines s os t = sizesLine s ++ entryLines 0 os ++ lastLine t
 
 -- all lines, by the reader's answer
 abbrev pub linesFor : List ℕ → Reading → List ℕ
-linesFor file (Accepted s entries) = runLines s (outcomesIn file)
+linesFor file (Accepted s entries) = runLines s (outcomesIn file) (summaryIn file)
 linesFor file (reading.Refused r) = refusalLine r
 
 -- what the program prints for a file

@@ -13,11 +13,15 @@ abbrev pub ascii : String → List ℕ
 ascii [] = []
 ascii (c ∷ s) = code c ∷ ascii s
 
--- a line: words with a space between each two, and a line end behind the last
+-- words with a space between each two, and an end behind the last
+abbrev pub ending : List ℕ → List (List ℕ) → List ℕ
+ending end [] = end
+ending end (word ∷ []) = word ++ end
+ending end (word ∷ next ∷ words) = word ++ (ascii " " ++ ending end (next ∷ words))
+
+-- a line of words
 abbrev pub line : List (List ℕ) → List ℕ
-line [] = ascii "\n"
-line (word ∷ []) = word ++ ascii "\n"
-line (word ∷ next ∷ words) = word ++ (ascii " " ++ line (next ∷ words))
+line words = ending (ascii "\n") words
 
 -- ── Numbers ─────────────────────────────────────────────────────────────────────────────────────────────────────────────────
 

@@ -5,3 +5,4 @@ pub use Rattle.terms.specs.declared.sizes.Sizes.{Sizes}
 pub use Rattle.terms.specs.declared.tally.Tally.{Tally}
 pub use Rattle.schedule.specs.declared.reader.Reading.{Reading}
 pub use Rattle.schedule.specs.declared.reader.Reading.the-variants.{Accepted}
+pub use Rattle.schedule.specs.declared.runner.Summary.{Summary}

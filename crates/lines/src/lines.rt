@@ -4,16 +4,17 @@ ghost use Prim.Native.Nat.{_+_, _*_, _≤_, _<_};
 ghost use lib.ListN.{length, replicate};
 ghost use Rattle.number.specs.Number.{overwritten};
 ghost use Rattle.schedule.specs.Format.{wordsIn};
-ghost use Rattle.schedule.specs.Run.{outcomesFrom};
+ghost use Rattle.schedule.specs.Run.{outcomesFrom, summaryFrom};
 ghost use Rattle.lines.specs.FromTrace.{linesFromTrace, threeNumbers};
-ghost use Rattle.lines.specs.Lines.{linesOf, marginWord, refusalLine, runLines, sizesLine, totalsLine};
-ghost use Rattle.lines.specs.Text.{line};
+ghost use Rattle.lines.specs.Lines.{lastLine, linesOf, marginWord, refusalLine, runLines, sizesLine, totalsWords};
+ghost use Rattle.lines.specs.Text.{ending, line};
 ghost use Rattle.terms.specs.Refusal.{placeOf};
 use crate::text::put_bytes;
 use crate::text::put_number;
 use number::word_at;
 use schedule::LONGEST_TRACE;
 use schedule::Reading;
+use schedule::Summary;
 use schedule::kind_part;
 use schedule::obey_entries;
 use schedule::operand_part;
@@ -24,8 +25,8 @@ use terms::Sizes;
 use terms::Tally;
 
 // Room for every text: a number and the byte behind it take at most 11, so the first line takes at most 73, each of 4,096 entries 33, and
-// the last line 52.
-pub const TEXT_ROOM: usize = 135293;
+// the last line 70.
+pub const TEXT_ROOM: usize = 135311;
 
 // The byte between two numbers or words, and the one behind a line.
 const SPACE: u8 = 32;
@@ -95,18 +96,30 @@ fn put_entries(text: &mut [u8], from: usize, entries: usize, trace: &[u8]) -> us
     end
 }
 
-// Puts the last line. Answers where it ends.
-fn put_totals(text: &mut [u8], at: usize, tally: Tally) -> usize
+// Puts the three totals, and a byte behind them. Answers where they end.
+fn put_totals(text: &mut [u8], at: usize, tally: Tally, behind: u8) -> usize
     requires { ⌜ at + 52 ≤ length (now text) ⌝ }
-    ensures { λ r. ⌜ (r ≡ at + length (totalsLine tally)) × (r ≤ at + 52) ⌝ }
-    ensures { λ _. ⌜ now (text .exit) ≡ overwritten at (totalsLine tally) (now (text .entry)) ⌝ }
+    ensures { λ r. ⌜ (r ≡ at + length (ending (behind ∷ []) (totalsWords tally))) × (r ≤ at + 52) ⌝ }
+    ensures { λ _. ⌜ now (text .exit) ≡ overwritten at (ending (behind ∷ []) (totalsWords tally)) (now (text .entry)) ⌝ }
 {
     let mut end = put_bytes(text, at, b"given ");
     end = put_number(text, end, tally.given, SPACE);
     end = put_bytes(text, end, b"aborts ");
     end = put_number(text, end, tally.aborts, SPACE);
     end = put_bytes(text, end, b"waits ");
-    put_number(text, end, tally.waits, NEWLINE)
+    put_number(text, end, tally.waits, behind)
+}
+
+// Puts the last line: the totals, and how far memory lagged at most. Answers where it ends.
+fn put_summary(text: &mut [u8], at: usize, summary: Summary) -> usize
+    requires { ⌜ at + 70 ≤ length (now text) ⌝ }
+    ensures { λ r. ⌜ (r ≡ at + length (lastLine summary)) × (r ≤ at + 70) ⌝ }
+    ensures { λ _. ⌜ now (text .exit) ≡ overwritten at (lastLine summary) (now (text .entry)) ⌝ }
+{
+    let tally = summary.tally;
+    let mut end = put_totals(text, at, tally, SPACE);
+    end = put_bytes(text, end, b"hidden ");
+    put_number(text, end, summary.hidden, NEWLINE)
 }
 
 // Puts the line of a refused file, at the front. Answers where it ends.
@@ -125,21 +138,21 @@ fn put_refusal(text: &mut [u8], refusal: Refusal) -> usize
 
 // Runs a file that was read, by its sizes and its two parts, and puts its lines. Answers where they end.
 fn put_run(text: &mut [u8], sizes: Sizes, kinds: &[u8], operands: &[u8]) -> usize
-    requires { ⌜ (135293 ≤ length (now text)) × (length (now kinds) ≤ 4096) ⌝ }
-    ensures { λ r. ⌜ (r ≡ length (runLines sizes (outcomesFrom sizes (now (kinds .entry)) (wordsIn (now (operands .entry)))))) × (r ≤ 135293) ⌝ }
-    ensures { λ _. ⌜ now (text .exit) ≡ overwritten 0 (runLines sizes (outcomesFrom sizes (now (kinds .entry)) (wordsIn (now (operands .entry))))) (now (text .entry)) ⌝ }
+    requires { ⌜ (135311 ≤ length (now text)) × (length (now kinds) ≤ 4096) ⌝ }
+    ensures { λ r. ⌜ (r ≡ length (runLines sizes (outcomesFrom sizes (now (kinds .entry)) (wordsIn (now (operands .entry)))) (summaryFrom sizes (now (kinds .entry)) (wordsIn (now (operands .entry)))))) × (r ≤ 135311) ⌝ }
+    ensures { λ _. ⌜ now (text .exit) ≡ overwritten 0 (runLines sizes (outcomesFrom sizes (now (kinds .entry)) (wordsIn (now (operands .entry)))) (summaryFrom sizes (now (kinds .entry)) (wordsIn (now (operands .entry))))) (now (text .entry)) ⌝ }
 {
     let mut trace = [0; LONGEST_TRACE];
-    let tally = obey_entries(sizes, kinds, operands, &mut trace);
+    let summary = obey_entries(sizes, kinds, operands, &mut trace);
     let first = put_sizes(text, sizes);
     let last = put_entries(text, first, kinds.len(), &trace);
-    put_totals(text, last, tally)
+    put_summary(text, last, summary)
 }
 
 // Puts what the program prints for a file. Answers where it ends.
 fn put_lines(text: &mut [u8], file: &[u8]) -> usize
-    requires { ⌜ 135293 ≤ length (now text) ⌝ }
-    ensures { λ r. ⌜ (r ≡ length (linesOf (now (file .entry)))) × (r ≤ 135293) ⌝ }
+    requires { ⌜ 135311 ≤ length (now text) ⌝ }
+    ensures { λ r. ⌜ (r ≡ length (linesOf (now (file .entry)))) × (r ≤ 135311) ⌝ }
     ensures { λ _. ⌜ now (text .exit) ≡ overwritten 0 (linesOf (now (file .entry))) (now (text .entry)) ⌝ }
 {
     let reading = read(file);
@@ -154,7 +167,7 @@ fn put_lines(text: &mut [u8], file: &[u8]) -> usize
 // What the program prints for a file.
 pub fn lines_of(file: &[u8]) -> Text
     ensures { λ r. ⌜ (r .length ≡ length (linesOf (now (file .entry)))) × (r .length ≤ length (r .bytes)) ⌝ }
-    ensures { λ r. ⌜ r .bytes ≡ overwritten 0 (linesOf (now (file .entry))) (replicate 135293 0) ⌝ }
+    ensures { λ r. ⌜ r .bytes ≡ overwritten 0 (linesOf (now (file .entry))) (replicate 135311 0) ⌝ }
 {
     let mut bytes = [0; TEXT_ROOM];
     let length = put_lines(&mut bytes, file);

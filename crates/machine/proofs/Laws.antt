@@ -1,4 +1,5 @@
 pub mod InRange
+pub mod Hidden
 pub mod Worker
 pub mod Obey
 pub mod Loads

@@ -1,5 +1,5 @@
 -- Machines handed in, as one table over the definitions, in rows as `Stories` has them: machines in range that no schedule reaches, steps that lead out of range, and machines out of range. Renders, of "Parts", what an
--- operation does that is handed a machine; and of "The numbers", that 7 leaves the machine unchanged. `proofs/Handed.antt` proves that every row holds, and `HandedBack`.
+-- operation does that is handed a machine; of "The numbers", that 7 leaves the machine unchanged; and of request 4, in 02, that the number for a machine out of range is 0. `proofs/Handed.antt` proves that every row holds, and `HandedBack`.
 use mathlib.Core.Path.{_≡_}
 use mathlib.Core.Bool.{true, false}
 use mathlib.Core.List.{List, [], _∷_, _++_, map}
@@ -12,7 +12,7 @@ use Rattle.machine.specs.Types.{Entry, ClientStore, BeginTake, WorkerSte
 use Rattle.machine.specs.Machine.{done, fresh}
 use Rattle.machine.specs.Update.{pushed, withBuffer, withHead, withMemory, withSpacing, withThief, withWorker}
 use Rattle.machine.specs.Obey.{obey}
-use Rattle.machine.specs.Stories.{Row, margin, story, handed, brink, beyond, countIs, does, drains, emptySteps, headIs, oneOfEach, thiefMoves, workerGets, workerMoves}
+use Rattle.machine.specs.Stories.{Row, margin, story, handed, hiding, brink, beyond, countIs, does, drains, emptySteps, headIs, oneOfEach, thiefMoves, workerGets, workerMoves}
 use Rattle.machine.specs.Rehearsals.{m3Sizes}
 
 -- with one thief
@@ -90,6 +90,30 @@ brinks =
     ∷ brink (withTail (pos 2) (withThief 0 (StealLoadTail minusOne) (fresh m3Sizes))) (ThiefStep 0) Moved
     ∷ []
 
+-- with a take's store pending, below memory's tail of 0
+abbrev pub takePending : Machine → Machine
+takePending m = pushed (tailStore minusOne) m
+
+-- .. or with one below memory's tail of 1, so that the worker's tail is 0
+abbrev pub takePendingAt0 : Machine → Machine
+takePendingAt0 m = pushed (tailStore zeroth) (withTail (pos 1) m)
+
+-- The same where a take's store is pending: the number that is handed on is 0 all the same, since it is for the machine that the step leads to.
+abbrev pub hiddenBrinks : List Row
+hiddenBrinks =
+    brink (takePendingAt0 (withSpacing countedMost (fresh m3Sizes))) ClientStore Moved
+    ∷ brink (takePendingAt0 (withSpacing countedMost (withWorker (PutStoreSlot 5) (fresh m3Sizes)))) WorkerStep Moved
+    ∷ brink (takePendingAt0 (withSpacing countedMost (withWorker PutStoreTail (fresh m3Sizes)))) WorkerStep Stored
+    ∷ brink (pushed (tailStore greatest) (takePendingAt0 (withWorker PutStoreTail (fresh (sized 4 3 0 3 1 0))))) WorkerStep Stored
+    ∷ brink (takePending (withWorker (PutStoreSlot 5) (fresh m3Sizes))) WorkerStep Moved
+    ∷ brink (takePending (withWorker TakeStoreTail (fresh m3Sizes))) WorkerStep Moved
+    ∷ brink (takePending (withHead minusOne (withWorker (TakeLoadHead minusOne) (fresh m3Sizes)))) WorkerStep Moved
+    ∷ brink (takePending (withHead minusOne (withWorker (TakeReloadHead minusOne) (fresh m3Sizes)))) WorkerStep Moved
+    ∷ brink (takePending (withWorker (TakeRestoreTail greatest) (fresh m3Sizes))) WorkerStep Moved
+    ∷ brink (takePending (withThief 0 (StealRaiseHead greatest) (fresh m3Sizes))) (ThiefStep 0) Moved
+    ∷ brink (pushed (tailStore zeroth) (withTail (pos 2) (withThief 0 (StealLoadTail minusOne) (fresh m3Sizes)))) (ThiefStep 0) Moved
+    ∷ []
+
 -- one part out of range: each size, how many stores are pending, the spacing count, head, the tail, a pending store, the index of a call
 abbrev pub outOfRange : List Machine
 outOfRange =
@@ -126,6 +150,7 @@ abbrev pub afterBrink : Row → List Machine
 afterBrink (margin b s n) = []
 afterBrink (story s l) = []
 afterBrink (handed m l) = []
+afterBrink (hiding m l ns) = []
 afterBrink (brink m e o) = obey m e .machine ∷ []
 afterBrink (beyond m) = []
 
@@ -137,4 +162,4 @@ HandedBack =
     × (map (obey (fresh m3Sizes)) absentThieves ≡ map (λ e. done Wait (fresh m3Sizes)) absentThieves)
 
 abbrev pub handedIn : List Row
-handedIn = handedRows ++ brinks ++ map beyond outOfRange
+handedIn = handedRows ++ brinks ++ hiddenBrinks ++ map beyond (outOfRange ++ map takePending outOfRange)

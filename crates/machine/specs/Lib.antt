@@ -7,30 +7,33 @@
 -- whose stores keep takes apart          Spacing, of `stores`
 -- the steps of put and take, of steal    Worker, Thief: the queue, which knows no machine
 -- a machine with a part replaced         Update
--- the machine at first, and loads        Machine
+-- what must be in range                  InRange
+-- the machine at first, loads, and how
+-- far memory lags                        Machine
 -- a step on the machine                  Perform
 -- every other entry                      Entries
--- what must be in range                  InRange
 -- an entry, and the order of 5 to 7      Obey
 -- the plain queue, and the claim         of `claim`
 -- where a call takes effect              Effect
 -- demand 3                               Linearizable
 -- rows of tables                         Stories
 -- what keeps takes apart, in rows        SpacedTakes
+-- how far memory lags, in rows           HiddenStores
 -- M1 to M9, and more                     Rehearsals
 -- machines handed in                     Handed
 pub mod Types
 pub mod Worker
 pub mod Thief
 pub mod Update
+pub mod InRange
 pub mod Machine
 pub mod Perform
 pub mod Entries
-pub mod InRange
 pub mod Obey
 pub mod Effect
 pub mod Linearizable
 pub mod Stories
 pub mod SpacedTakes
+pub mod HiddenStores
 pub mod Rehearsals
 pub mod Handed

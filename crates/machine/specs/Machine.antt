@@ -1,5 +1,5 @@
--- The machine: what it is at first, what the parties load from it, what a step may need, and what
--- an operation hands back. Renders the first paragraph of "The machine" and, of "Demand 3's plain queue", what the fresh machine is.
+-- The machine: what it is at first, what the parties load from it, what a step may need, how far memory lags, and what an operation hands back. Renders the first paragraph of "The machine", of
+-- "Demand 3's plain queue" what the fresh machine is, and of request 4, in 02, the number that is handed on.
 use mathlib.Core.Bool.{Bool, cond}
 use Prim.Native.Nat.{ℕ}
 use lib.Dec.{ltb, eqb}
@@ -7,9 +7,10 @@ use lib.ListN.{getD, replicate}
 use Rattle.stores.specs.Index.{indexOf, slotOf}
 use Rattle.stores.specs.Lock.{isNobody}
 use Rattle.stores.specs.Spacing.{noTake}
-use Rattle.stores.specs.StoreBuffer.{emptyBuffer, newestInSlot, newestTail}
-use Rattle.machine.specs.Types.{Done, Nobody, Index, Load, NoSlot, SlotOf, Machine, Outcome, Wait, Sizes, ThiefCall, WorkerCall}
+use Rattle.stores.specs.StoreBuffer.{emptyBuffer, newestInSlot, newestTail, pending, takeStores}
+use Rattle.machine.specs.Types.{Done, Nobody, Index, Load, NoSlot, SlotOf, Look, Machine, Outcome, Wait, Sizes, ThiefCall, WorkerCall}
 use Rattle.machine.specs.Thief.{idleThief}
+use Rattle.machine.specs.InRange.{inRange}
 
 -- ── At first ────────────────────────────────────────────────────────────────────────────────────────────────────────────────
 
@@ -71,10 +72,31 @@ hasRoom m = ltb (m .buffer .count) (m .sizes .buffer)
 abbrev pub nothingPending : Machine → Bool
 nothingPending m = eqb (m .buffer .count) 0
 
+-- ── How far memory lags ─────────────────────────────────────────────────────────────────────────────────────────────────────
+
+-- how many stores of take step 1 are pending
+abbrev pub takesPending : Machine → ℕ
+takesPending m = takeStores (m .tail) (pending (m .buffer))
+
+-- .. as it is handed on: 0 for a machine out of range
+abbrev pub hiddenIf : Bool → ℕ → ℕ
+hiddenIf ranged takes = cond ranged takes 0
+
+abbrev pub hidden : Machine → ℕ
+hidden m = hiddenIf (inRange m) (takesPending m)
+
+-- what one look at a machine finds, with which every operation begins
+abbrev pub look : Machine → Look
+look m = record { ranged = inRange m; tail = workerTail m; hidden = hidden m }
+
 -- ── What an operation hands back ────────────────────────────────────────────────────────────────────────────────────────────
 
+abbrev pub handing : Outcome → ℕ → Machine → Done
+handing o hidden m = record { machine = m; outcome = o; hidden = hidden }
+
+-- the machine, the outcome, and the number for that machine
 abbrev pub done : Outcome → Machine → Done
-done o m = record { machine = m; outcome = o }
+done o m = handing o (hidden m) m
 
 -- 7 WAIT where the step's need is not met
 abbrev pub needing : Bool → Machine → Done → Done

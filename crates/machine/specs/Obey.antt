@@ -1,12 +1,13 @@
 -- An entry obeyed, and a list of them. Renders, of "Parts", what an operation does first, of "The numbers" the order in which one entry is
--- refused, and of "Demand 3's plain queue" how a list is run.
+-- refused, of "Demand 3's plain queue" how a list is run, and of request 4, in 02, for which machine a number is handed on.
 use mathlib.Core.Path.{_≡_}
 use mathlib.Core.Bool.{Bool, true, false, cond, _&&_}
 use mathlib.Core.List.{List, [], _∷_}
+use Prim.Native.Nat.{ℕ}
 use lib.Dec.{ltb}
 use Rattle.terms.specs.Outcome.{isRefusal}
 use Rattle.machine.specs.Types.{Done, Entry, Drain, ClientStore, BeginPut, BeginTake, WorkerStep, BeginSteal, ThiefStep, Machine, Outcome, Wait, Sizes}
-use Rattle.machine.specs.Machine.{done, thiefCall}
+use Rattle.machine.specs.Machine.{done, hidden, thiefCall}
 use Rattle.machine.specs.InRange.{inRange}
 use Rattle.machine.specs.Perform.{stepOfThief, stepOfWorker}
 use Rattle.machine.specs.Entries.{beginPut, beginSteal, beginTake, drain, makeClientStore}
@@ -35,14 +36,18 @@ thiefIsThere s (ThiefStep i) = ltb i (s .thieves)
 abbrev pub obey : Machine → Entry → Done
 obey m e = cond (inRange m && thiefIsThere (m .sizes) e) (obeyInRange m e) (done Wait m)
 
--- ── What is refused changes nothing ─────────────────────────────────────────────────────────────────────────────────────────
+-- ── What is so of every machine and every entry ─────────────────────────────────────────────────────────────────────────────
 
--- 5, 6 and 7 leave the machine as it is; and 7 comes first. Proved in `proofs/Laws/Obey.antt`, of every machine.
+-- Proved in `proofs/Laws/Obey.antt`. 5, 6 and 7 leave the machine as it is; and 7 comes first.
 abbrev pub RefusalKeeps : Type 0
 RefusalKeeps = (m : Machine) (e : Entry) → isRefusal (obey m e .outcome) ≡ true → obey m e .machine ≡ m
 
 abbrev pub OutOfRangeWaits : Type 0
 OutOfRangeWaits = (m : Machine) (e : Entry) → (inRange m && thiefIsThere (m .sizes) e) ≡ false → obey m e ≡ done Wait m
+
+-- whether the entry moved, answered or was refused, the number that it hands on is that of the machine that it returns
+abbrev pub HandsOnHidden : Type 0
+HandsOnHidden = (m : Machine) (e : Entry) → obey m e .hidden ≡ hidden (obey m e .machine)
 
 -- ── A list of entries, each on the machine left by the one before it ────────────────────────────────────────────────────
 
@@ -53,3 +58,8 @@ machineAfter m (e ∷ es) = machineAfter (obey m e .machine) es
 abbrev pub outcomesOf : Machine → List Entry → List Outcome
 outcomesOf m [] = []
 outcomesOf m (e ∷ es) = obey m e .outcome ∷ outcomesOf (obey m e .machine) es
+
+-- the number that each of them hands on: how many stores of take step 1 are pending after it
+abbrev pub hiddenOf : Machine → List Entry → List ℕ
+hiddenOf m [] = []
+hiddenOf m (e ∷ es) = obey m e .hidden ∷ hiddenOf (obey m e .machine) es

@@ -1,5 +1,5 @@
 -- The rehearsals of the paper, M1 to M9, as one table over the definitions, with rows for the example under "The program's lines", for
--- the lines of "Broken thread" that a run can show, for each limit of the plain queue, for each refusal in its order, and, in `SpacedTakes`, for what keeps takes apart. Rows of machines that no
+-- the lines of "Broken thread" that a run can show, for each limit of the plain queue, for each refusal in its order, in `SpacedTakes`, for what keeps takes apart, and, in `HiddenStores`, for how far memory lags. Rows of machines that no
 -- run of a schedule reaches are in `Handed`.
 -- `proofs/Rehearsals.antt` proves one fact: every row holds.
 use mathlib.Core.Bool.{Bool}
@@ -11,8 +11,9 @@ use Rattle.terms.specs.Sizes.{sized}
 use Rattle.terms.specs.Lists.{all, concatMap, occurrences, rangeFrom}
 use Rattle.claim.specs.Calls.{worker, thief}
 use Rattle.machine.specs.Types.{Drain, ClientStore, BeginPut, BeginTake, WorkerStep, BeginSteal, ThiefStep, Outcome, Moved, Place, Early, Wait, Stored, Task, Empty, Abort, Full, End, Sizes}
-use Rattle.machine.specs.Stories.{Line, Row, margin, story, does, headIs, tailIs, slotIs, countIs, tasksStand, standing, owed, drains, clientStores, workerMoves, workerGets, thiefMoves, thiefGets, puts, putEnds, takes, steals, filled, numbersIn}
+use Rattle.machine.specs.Stories.{Line, Row, margin, story, does, headIs, tailIs, slotIs, countIs, tasksStand, standing, owed, drains, clientStores, workerMoves, workerGets, thiefMoves, thiefGets, puts, putEnds, takes, steals, filled, undrainedTakes, numbersIn}
 use Rattle.machine.specs.SpacedTakes.{spacedTakes}
+use Rattle.machine.specs.HiddenStores.{hiddenStores}
 
 -- ── The table ───────────────────────────────────────────────────────────────────────────────────────────────────────────────
 
@@ -96,7 +97,7 @@ slotBeforeTail = puts 1 ++ drains 1 ++ tailIs (pos 0) ∷ drains 1 ++ tailIs (po
 
 -- "Broken thread", the margin rounded down: 17 takes are pending at once, with a client store between each two, and 16 is one short
 abbrev pub seventeenTakesThenSteal : Outcome → List Line
-seventeenTakesThenSteal o = filled 17 ++ takes 17 ++ concatMap (λ k. clientStores 1 ++ takes (17 - k)) (rangeFrom 1 16) ++ steals o
+seventeenTakesThenSteal o = filled 17 ++ undrainedTakes 17 1 ++ steals o
 
 -- "Broken thread", FULL one task too late: a thief has stolen task 1 and not yet loaded its slot, which one more put would overwrite
 abbrev pub slotAboutToBeLoaded : List Line
@@ -282,7 +283,7 @@ stories =
     ∷ []
 
 abbrev pub rehearsals : List Row
-rehearsals = m1 ++ stories ++ spacedTakes
+rehearsals = m1 ++ stories ++ spacedTakes ++ hiddenStores
 
 -- ── Every number ────────────────────────────────────────────────────────────────────────────────────────────────────────────
 

@@ -1,8 +1,8 @@
--- Rows of the tables over the definitions: a row is a story, entries with their outcomes and looks at the machine meanwhile; a needed margin; or a machine at the edge of its range, or past it. With words for
--- stories. The rows themselves are in `Rehearsals`, `SpacedTakes` and `Handed`.
+-- Rows of the tables over the definitions: a row is a story, entries with their outcomes and looks at the machine meanwhile; such a story with the numbers that its entries hand on; a needed margin; or a machine at the edge of
+-- its range, or past it. With words for stories. The rows themselves are in `Rehearsals`, `SpacedTakes`, `HiddenStores` and `Handed`.
 use mathlib.Core.Bool.{Bool, true, not, _&&_}
 use mathlib.Core.List.{List, [], _∷_, _++_, map}
-use Prim.Native.Nat.{ℕ}
+use Prim.Native.Nat.{ℕ, _-_}
 use lib.Dec.{eqb}
 use lib.IntN.{ℤ}
 use lib.ListN.{getD, length, replicate}
@@ -15,7 +15,7 @@ use Rattle.claim.specs.Calls.{Party, answersTo, noCall}
 use Rattle.claim.specs.Watch.{Watch, watchAfter, watchFresh}
 use Rattle.machine.specs.Types.{Entry, Drain, ClientStore, BeginPut, BeginTake, WorkerStep, BeginSteal, ThiefStep, Machine, Outcome, Moved, Wait, Stored, Task, Empty, Sizes}
 use Rattle.machine.specs.InRange.{inRange}
-use Rattle.machine.specs.Obey.{obey}
+use Rattle.machine.specs.Obey.{hiddenOf, obey}
 use Rattle.machine.specs.Linearizable.{ffThe, owes, standingInSlots, standingNow}
 
 -- ── Rows ────────────────────────────────────────────────────────────────────────────────────────────────────────────────────
@@ -40,9 +40,11 @@ pub data Row : Type 0 where
   story : Sizes → List Line → Row
   -- a story that starts at a machine in range, which may be one that no schedule reaches; the plain queue beside it tells nothing
   handed : Machine → List Line → Row
-  -- a machine in range that the entry, with this outcome, leads out of range, so that every next operation answers 7
+  -- such a story, and the number that each of its entries hands on
+  hiding : Machine → List Line → List ℕ → Row
+  -- a machine in range that the entry, with this outcome and the number 0, leads out of range, so that every next operation answers 7
   brink : Machine → Entry → Outcome → Row
-  -- a machine out of range: every operation answers 7 (and hands it back as it was: `HandedBack`, in `Handed`)
+  -- a machine out of range: every operation answers 7 and hands on 0 (and the machine as it was: `HandedBack`, in `Handed`)
   beyond : Machine → Row
 
 abbrev pub sameOutcome : Outcome → Outcome → Bool
@@ -54,9 +56,13 @@ sameOutcomes l m = equal (map numberOf l) (map numberOf m) && equal (map valueOf
 abbrev pub oneOfEach : List Entry
 oneOfEach = Drain ∷ ClientStore ∷ BeginPut 1 ∷ BeginTake ∷ WorkerStep ∷ BeginSteal 0 ∷ ThiefStep 0 ∷ []
 
--- the machine is out of range, and so every operation on it answers 7
+-- the entry has this outcome, and hands on this number
+abbrev pub hands : Machine → Entry → Outcome → ℕ → Bool
+hands m e o n = sameOutcome (obey m e .outcome) o && eqb (obey m e .hidden) n
+
+-- the machine is out of range, and so every operation on it answers 7 and hands on 0
 abbrev pub allWait : Machine → Bool
-allWait m = not (inRange m) && all (λ e. sameOutcome (obey m e .outcome) Wait) oneOfEach
+allWait m = not (inRange m) && all (λ e. hands m e Wait 0) oneOfEach
 
 abbrev pub comesTrue : Watch Machine → List Line → Bool
 comesTrue w [] = true
@@ -70,13 +76,9 @@ comesTrue w (standing xs ∷ l) =
     equal (map (λ t. t .number) (w .queue .tasks)) xs && equal (standingInSlots (w .machine)) xs && equal (standingNow (w .machine)) xs && comesTrue w l
 comesTrue w (owed p o ∷ l) = sameOutcomes (owes (w .machine) p) (o ∷ []) && sameOutcomes (answersTo (w .calls p)) (o ∷ []) && comesTrue w l
 
-abbrev pub holds : Row → Bool
-holds (margin b s n) = eqb (neededMargin b s) n
-holds (story s l) = comesTrue (watchFresh ffThe s) l
-holds (handed m l) = inRange m && comesTrue (record { machine = m; queue = emptyQueue 0; calls = λ p. noCall }) l
-holds (brink m e o) =
-    inRange m && sameOutcome (obey m e .outcome) o && allWait (obey m e .machine)
-holds (beyond m) = allWait m
+-- a machine that is handed in, with a plain queue that knows nothing of it
+abbrev pub watchHanded : Machine → Watch Machine
+watchHanded m = record { machine = m; queue = emptyQueue 0; calls = λ p. noCall }
 
 -- the entries of a story
 abbrev pub entryIn : Line → List Entry
@@ -91,6 +93,14 @@ entryIn (owed p o) = []
 
 abbrev pub entriesIn : List Line → List Entry
 entriesIn l = concatMap entryIn l
+
+abbrev pub holds : Row → Bool
+holds (margin b s n) = eqb (neededMargin b s) n
+holds (story s l) = comesTrue (watchFresh ffThe s) l
+holds (handed m l) = inRange m && comesTrue (watchHanded m) l
+holds (hiding m l ns) = inRange m && comesTrue (watchHanded m) l && equal (hiddenOf m (entriesIn l)) ns
+holds (brink m e o) = inRange m && hands m e o 0 && allWait (obey m e .machine)
+holds (beyond m) = allWait m
 
 -- the number of the outcome in a line
 abbrev pub numberIn : Line → List ℕ
@@ -108,6 +118,7 @@ abbrev pub numbersIn : Row → List ℕ
 numbersIn (margin b s n) = []
 numbersIn (story s l) = concatMap numberIn l
 numbersIn (handed m l) = concatMap numberIn l
+numbersIn (hiding m l ns) = concatMap numberIn l
 numbersIn (brink m e o) = numberOf o ∷ []
 numbersIn (beyond m) = []
 
@@ -157,3 +168,7 @@ steals o = does (BeginSteal 0) Moved ∷ thiefMoves 5 ++ thiefGets o
 -- puts of 1 to n, each fully drained
 abbrev pub filled : ℕ → List Line
 filled n = concatMap (λ x. puts x ++ drains 2) (rangeFrom 1 n)
+
+-- so many takes, from the task with that number down, undrained, with client stores between each two
+abbrev pub undrainedTakes : ℕ → ℕ → List Line
+undrainedTakes n apart = takes n ++ concatMap (λ k. clientStores apart ++ takes (n - k)) (rangeFrom 1 (n - 1))

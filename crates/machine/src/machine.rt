@@ -17,14 +17,16 @@ use terms::Entry;
 use terms::Outcome;
 use terms::Sizes;
 ghost use mathlib.Core.Path.{_≡_};
-ghost use mathlib.Core.Bool.{true};
-ghost use Prim.Native.Nat.{_<_};
+ghost use mathlib.Core.Bool.{_&&_, cond, true};
+ghost use Prim.Native.Nat.{_+_, _-_, _≤_, _<_};
+ghost use Rattle.stores.specs.Spacing.{spacingInRange};
+ghost use Rattle.stores.specs.StoreBuffer.{pushInRange, pushLowersTail};
 ghost use Rattle.machine.specs.InRange.{inRange};
-ghost use Rattle.machine.specs.Worker.{workerRuns};
-ghost use Rattle.machine.specs.Machine.{done, fresh, memoryLoad, memoryLoads, thiefCall, thiefTail, workerLoad, workerLoads, workerTail};
+ghost use Rattle.machine.specs.Worker.{workerInRange, workerRuns};
+ghost use Rattle.machine.specs.Machine.{fresh, handing, hiddenIf, look, memoryLoad, memoryLoads, thiefCall, thiefTail, workerLoad, workerLoads};
 ghost use Rattle.machine.specs.Obey.{obey};
 ghost use Rattle.machine.specs.Update.{withThief, withWorker};
-ghost use Rattle.machine.specs.Types.{BeginPut, BeginSteal, BeginTake, ClientStore, Drain, Place, Wait};
+ghost use Rattle.machine.specs.Types.{BeginPut, BeginSteal, BeginTake, ClientStore, Drain, Moved, StealLock};
 
 // The worker.
 pub struct Worker {
@@ -54,16 +56,66 @@ pub struct Machine {
     pub thieves: [Thief; 8],
 }
 
-// What an operation hands back: the machine after it, and the entry's outcome.
+// What an operation hands back: the machine after it, the entry's outcome, and how far memory lags.
 pub struct Done {
     pub machine: Machine,
     pub outcome: Outcome,
+    // How many stores of take step 1 are pending in that machine; 0 where it is out of range.
+    pub hidden: u32,
+}
+
+// What one look at a machine finds, which every operation begins with.
+pub(crate) struct Look {
+    // Whether the machine is in range.
+    pub(crate) ranged: bool,
+    // The tail as the worker loads it.
+    pub(crate) tail: Index,
+    // How many stores of take step 1 are pending; 0 where the machine is out of range.
+    pub(crate) hidden: u32,
+}
+
+// How many stores of take step 1 a machine has pending, as an operation tells it: 0 where it is out of range.
+pub(crate) fn hidden_if(ranged: bool, takes: u32) -> u32
+    ensures { λ r. ⌜ r ≡ hiddenIf ranged takes ⌝ }
+{
+    if ranged { takes } else { 0 }
+}
+
+// .. after one more store, by whether that is of take step 1.
+fn more_if(lowers: bool, takes: u32) -> u32
+    requires { ⌜ takes ≤ 64 ⌝ }
+    ensures { λ r. ⌜ r ≡ cond lowers (takes + 1) takes ⌝ }
+{
+    if lowers { takes + 1 } else { takes }
+}
+
+// .. after the oldest has gone, by whether that was.
+fn fewer_if(lowered: bool, takes: u32) -> u32
+    ensures { λ r. ⌜ r ≡ cond lowered (takes - 1) takes ⌝ }
+{
+    if lowered & (0 < takes) {
+        takes - 1
+    } else {
+        takes
+    }
+}
+
+impl Look {
+    // How many stores of take step 1 are pending after a move of the worker's that makes this store, if it makes one, and leaves spacing count and call so.
+    pub(crate) fn hidden_after(self, made: Push, spacing: Spacing, call: WorkerCall) -> u32
+        requires { ⌜ self .hidden ≤ 64 ⌝ }
+        ensures { λ r. ⌜ r ≡ hiddenIf (spacingInRange spacing && pushInRange made && workerInRange call) (cond (pushLowersTail (self .tail) made) (self .hidden + 1) (self .hidden)) ⌝ }
+    {
+        let tail = self.tail;
+        let ranged = spacing.in_range() & made.in_range() & call.in_range();
+        hidden_if(ranged, more_if(made.lowers_tail(tail), self.hidden))
+    }
 }
 
 impl Machine {
-    // Whether sizes, number of pending stores, spacing count and every index are in range.
-    pub fn in_range(self) -> bool
-        ensures { λ r. ⌜ r ≡ inRange self ⌝ }
+    // One look at the machine, with one scan of its pending stores.
+    pub(crate) fn look(self) -> Look
+        ensures { λ r. ⌜ r ≡ look self ⌝ }
     {
         let sizes = self.sizes;
         let buffer = self.buffer;
@@ -73,23 +125,29 @@ impl Machine {
         let tail = self.tail;
         let spacing = self.spacing;
         let thieves = self.thieves;
-        sizes.in_range()
+        let found = buffer.scan(tail);
+        let newest = found.tail;
+        let ranged = sizes.in_range()
             & (buffer.count <= sizes.buffer as usize)
             & spacing.in_range()
             & head.in_range()
             & tail.in_range()
-            & buffer.in_range()
+            & found.ranged
             & call.in_range()
-            & thieves_in_range(thieves)
+            & thieves_in_range(thieves);
+        Look {
+            ranged: ranged,
+            tail: newest,
+            hidden: hidden_if(ranged, found.takes),
+        }
     }
 
-    // The tail as the worker loads it.
-    pub(crate) fn worker_tail(self) -> Index
-        ensures { λ r. ⌜ r ≡ workerTail self ⌝ }
+    // Whether sizes, number of pending stores, spacing count and every index are in range.
+    pub fn in_range(self) -> bool
+        ensures { λ r. ⌜ r ≡ inRange self ⌝ }
     {
-        let buffer = self.buffer;
-        let tail = self.tail;
-        buffer.newest_tail(tail)
+        let seen = self.look();
+        seen.ranged
     }
 
     // The tail as a thief loads it.
@@ -143,23 +201,14 @@ impl Machine {
         }
     }
 
-    // Handed back as it is: what the entry needs is not there.
-    pub(crate) fn waits(self) -> Done
-        ensures { λ r. ⌜ r ≡ done Wait self ⌝ }
+    // Handed back as it is, with this outcome.
+    pub(crate) fn refused(self, outcome: Outcome, hidden: u32) -> Done
+        ensures { λ r. ⌜ r ≡ handing outcome hidden self ⌝ }
     {
         Done {
             machine: self,
-            outcome: Outcome::Wait,
-        }
-    }
-
-    // Handed back as it is: the entry's party has a call where it must have none, or none where it must have one.
-    pub(crate) fn out_of_place(self) -> Done
-        ensures { λ r. ⌜ r ≡ done Place self ⌝ }
-    {
-        Done {
-            machine: self,
-            outcome: Outcome::Place,
+            outcome: outcome,
+            hidden: hidden,
         }
     }
 
@@ -172,15 +221,16 @@ impl Machine {
         call.runs()
     }
 
-    // Handed back with this outcome, and the step that is next in the worker's call.
-    fn worker_done(mut self, outcome: Outcome, call: WorkerCall) -> Done
-        ensures { λ r. ⌜ r ≡ done outcome (withWorker call self) ⌝ }
+    // The worker's call begins, with this step.
+    fn worker_begins(mut self, call: WorkerCall, hidden: u32) -> Done
+        ensures { λ r. ⌜ r ≡ handing Moved hidden (withWorker call self) ⌝ }
     {
         let worker = Worker { call: call };
         self.worker = worker;
         Done {
             machine: self,
-            outcome: outcome,
+            outcome: Outcome::Moved,
+            hidden: hidden,
         }
     }
 
@@ -194,17 +244,20 @@ impl Machine {
         found.call
     }
 
-    // Handed back with this outcome, and the step that is next in that thief's call.
-    fn thief_done(mut self, thief: u32, outcome: Outcome, call: ThiefCall) -> Done
+    // That thief's call begins.
+    fn thief_begins(mut self, thief: u32, hidden: u32) -> Done
         requires { ⌜ thief < 8 ⌝ }
-        ensures { λ r. ⌜ r ≡ done outcome (withThief thief call self) ⌝ }
+        ensures { λ r. ⌜ r ≡ handing Moved hidden (withThief thief StealLock self) ⌝ }
     {
         let mut thieves = self.thieves;
-        thieves[thief as usize] = Thief { call: call };
+        thieves[thief as usize] = Thief {
+            call: ThiefCall::StealLock,
+        };
         self.thieves = thieves;
         Done {
             machine: self,
-            outcome: outcome,
+            outcome: Outcome::Moved,
+            hidden: hidden,
         }
     }
 
@@ -212,11 +265,12 @@ impl Machine {
     pub fn drain(mut self) -> Done
         ensures { λ r. ⌜ r ≡ obey self Drain ⌝ }
     {
-        if !self.in_range() {
-            return self.waits();
+        let seen = self.look();
+        if !seen.ranged {
+            return self.refused(Outcome::Wait, seen.hidden);
         }
         if self.buffer.count == 0 {
-            return self.waits();
+            return self.refused(Outcome::Wait, seen.hidden);
         }
         let buffer = self.buffer;
         let store = buffer.oldest();
@@ -230,6 +284,7 @@ impl Machine {
         Done {
             machine: self,
             outcome: Outcome::Moved,
+            hidden: fewer_if(kind.lowers_tail(tail), seen.hidden),
         }
     }
 
@@ -237,23 +292,26 @@ impl Machine {
     pub fn client_store(mut self) -> Done
         ensures { λ r. ⌜ r ≡ obey self ClientStore ⌝ }
     {
-        if !self.in_range() {
-            return self.waits();
+        let seen = self.look();
+        if !seen.ranged {
+            return self.refused(Outcome::Wait, seen.hidden);
         }
         if self.worker_runs() {
-            return self.out_of_place();
+            return self.refused(Outcome::Place, seen.hidden);
         }
         if self.sizes.buffer as usize <= self.buffer.count {
-            return self.waits();
+            return self.refused(Outcome::Wait, seen.hidden);
         }
         let made = Push::One(Maker::TheClient, StoreKind::Client);
         let buffer = self.buffer;
-        self.buffer = buffer.pushed(made);
         let spacing = self.spacing;
-        self.spacing = spacing.counted_in(made);
+        let counted = spacing.counted_in(made);
+        self.buffer = buffer.pushed(made);
+        self.spacing = counted;
         Done {
             machine: self,
             outcome: Outcome::Moved,
+            hidden: hidden_if(counted.in_range(), seen.hidden),
         }
     }
 
@@ -261,48 +319,48 @@ impl Machine {
     pub fn begin_put(mut self, task: u32) -> Done
         ensures { λ r. ⌜ r ≡ obey self (BeginPut task) ⌝ }
     {
-        if !self.in_range() {
-            return self.waits();
+        let seen = self.look();
+        if !seen.ranged {
+            return self.refused(Outcome::Wait, seen.hidden);
         }
         if self.worker_runs() {
-            return self.out_of_place();
+            return self.refused(Outcome::Place, seen.hidden);
         }
-        self.worker_done(Outcome::Moved, WorkerCall::PutLoadHead(task))
+        self.worker_begins(WorkerCall::PutLoadHead(task), seen.hidden)
     }
 
     // The worker begins to take a task, if enough stores have spaced it from the take before.
     pub fn begin_take(mut self) -> Done
         ensures { λ r. ⌜ r ≡ obey self BeginTake ⌝ }
     {
-        if !self.in_range() {
-            return self.waits();
+        let seen = self.look();
+        if !seen.ranged {
+            return self.refused(Outcome::Wait, seen.hidden);
         }
         if self.worker_runs() {
-            return self.out_of_place();
+            return self.refused(Outcome::Place, seen.hidden);
         }
         let spacing = self.spacing;
         if spacing.too_early(self.sizes.spacing) {
-            return Done {
-                machine: self,
-                outcome: Outcome::Early,
-            };
+            return self.refused(Outcome::Early, seen.hidden);
         }
         self.spacing = Spacing::take_begins();
-        self.worker_done(Outcome::Moved, WorkerCall::TakeStoreTail)
+        self.worker_begins(WorkerCall::TakeStoreTail, seen.hidden)
     }
 
     // The thief with this number, counted from 0, begins to steal.
     pub fn begin_steal(mut self, thief: u32) -> Done
         ensures { λ r. ⌜ r ≡ obey self (BeginSteal thief) ⌝ }
     {
-        if !(self.in_range() & (thief < self.sizes.thieves)) {
-            return self.waits();
+        let seen = self.look();
+        if !(seen.ranged & (thief < self.sizes.thieves)) {
+            return self.refused(Outcome::Wait, seen.hidden);
         }
         let call = self.thief_call(thief);
         if let ThiefCall::Idle = call {
-            return self.thief_done(thief, Outcome::Moved, ThiefCall::StealLock);
+            return self.thief_begins(thief, seen.hidden);
         }
-        self.out_of_place()
+        self.refused(Outcome::Place, seen.hidden)
     }
 
     // An entry is obeyed, whichever it is.

@@ -1,26 +1,28 @@
 use crate::machine::Done;
 use crate::machine::Machine;
 use crate::machine::Worker;
+use crate::machine::hidden_if;
 use crate::thief::Thief;
 use crate::thief::ThiefMove;
 use crate::thief::ThiefView;
 use crate::thief::thief_move;
 use crate::worker::WorkerView;
 use crate::worker::worker_move;
+use stores::Index;
 use terms::Outcome;
 ghost use mathlib.Core.Path.{_≡_};
 ghost use mathlib.Core.Bool.{true};
 ghost use Prim.Native.Nat.{_<_};
 ghost use Rattle.machine.specs.InRange.{inRange};
-ghost use Rattle.machine.specs.Machine.{thiefCall};
+ghost use Rattle.machine.specs.Machine.{thiefCall, workerTail};
 ghost use Rattle.machine.specs.Obey.{obey};
 ghost use Rattle.machine.specs.Perform.{thiefView, workerView};
 ghost use Rattle.machine.specs.Types.{ThiefStep, WorkerStep};
 
 impl Machine {
-    // What the worker sees at its next step.
-    fn worker_view(self) -> WorkerView
-        requires { ⌜ inRange self ≡ true ⌝ }
+    // What the worker sees at its next step, with the tail that it loads.
+    fn worker_view(self, tail: Index) -> WorkerView
+        requires { ⌜ (inRange self ≡ true) × (tail ≡ workerTail self) ⌝ }
         ensures { λ r. ⌜ r ≡ workerView self (self .worker .call) ⌝ }
     {
         let worker = self.worker;
@@ -30,7 +32,7 @@ impl Machine {
         WorkerView {
             call: call,
             slots: self.sizes.slots,
-            tail: self.worker_tail(),
+            tail: tail,
             head: head,
             lock: lock,
             room: self.buffer.count < self.sizes.buffer as usize,
@@ -43,17 +45,22 @@ impl Machine {
     pub fn worker_step(mut self) -> Done
         ensures { λ r. ⌜ r ≡ obey self WorkerStep ⌝ }
     {
+        let seen = self.look();
+        let tail = seen.tail;
         let mut outcome = Outcome::Wait;
-        if self.in_range() {
-            let step = worker_move(self.worker_view());
+        let mut hidden = 0;
+        if seen.ranged {
+            let step = worker_move(self.worker_view(tail));
             let buffer = self.buffer;
             let spacing = self.spacing;
             let push = step.push;
             let lock = step.lock;
             let call = step.call;
+            let counted = spacing.counted_in(push);
             outcome = step.outcome;
+            hidden = seen.hidden_after(push, counted, call);
             self.buffer = buffer.pushed(push);
-            self.spacing = spacing.counted_in(push);
+            self.spacing = counted;
             self.lock = lock;
             let worker = Worker { call: call };
             self.worker = worker;
@@ -61,6 +68,7 @@ impl Machine {
         Done {
             machine: self,
             outcome: outcome,
+            hidden: hidden,
         }
     }
 
@@ -88,22 +96,25 @@ impl Machine {
     pub fn thief_step(mut self, thief: u32) -> Done
         ensures { λ r. ⌜ r ≡ obey self (ThiefStep thief) ⌝ }
     {
-        if !(self.in_range() & (thief < self.sizes.thieves)) {
-            return self.waits();
+        let seen = self.look();
+        if !(seen.ranged & (thief < self.sizes.thieves)) {
+            return self.refused(Outcome::Wait, seen.hidden);
         }
         let step = thief_move(self.thief_view(thief));
         let head = step.head;
         let lock = step.lock;
         let call = step.call;
         let outcome = step.outcome;
+        let moved = Thief { call: call };
         self.head = head;
         self.lock = lock;
         let mut thieves = self.thieves;
-        thieves[thief as usize] = Thief { call: call };
+        thieves[thief as usize] = moved;
         self.thieves = thieves;
         Done {
             machine: self,
             outcome: outcome,
+            hidden: hidden_if(head.in_range() & moved.in_range(), seen.hidden),
         }
     }
 }

@@ -20,8 +20,8 @@ pub(crate) const IMAGE_BYTES: usize = 3896;
 
 const NUMBERS: usize = 487;
 
-// The response to `o`. The image is behind its first 21 bytes.
-pub(crate) type Response = [u8; 3917];
+// The response to `o`. The image is behind its first 25 bytes.
+pub(crate) type Response = [u8; 3921];
 
 // A number of an image, by its place. (Places are below 487; the remainder lets the proof see it.)
 fn number_at(image: &[u8], place: usize) -> u64 {
@@ -110,7 +110,7 @@ pub(crate) fn machine_in(image: &[u8]) -> Machine {
 }
 
 fn put_number(response: &mut Response, place: usize, n: u64) {
-    let at = 21 + 8 * (place % NUMBERS);
+    let at = 25 + 8 * (place % NUMBERS);
     put_word(response, at, (n % 4294967296) as u32);
     put_word(response, at + 4, (n / 4294967296) as u32);
 }

@@ -38,7 +38,7 @@ fn write_step(response: &Response) {
 }
 
 // `o`, one step of a run. Given are the image of a machine, three totals, and an entry's kind, which is a byte, and operand. The response
-// is the outcome's number, which is a byte, and value, the totals, and the image of the machine.
+// is the outcome's number, which is a byte, and value, the totals, how many stores of take step 1 are pending, and the image of the machine.
 fn answer_step(request: &[u8]) {
     let tally = Tally {
         given: word_at(request, IMAGE_BYTES),
@@ -49,13 +49,14 @@ fn answer_step(request: &[u8]) {
     let entry = tags::entry_of(kind, word_at(request, IMAGE_BYTES + 13));
     let done = schedule::step(machine_in(request), tally, entry);
     let outcome = done.outcome;
-    let mut response = [0; 3917];
-    put_word(&mut response, 0, 3913);
+    let mut response = [0; 3921];
+    put_word(&mut response, 0, 3917);
     response[4] = outcome.number();
     put_word(&mut response, 5, outcome.value());
     put_word(&mut response, 9, done.tally.given);
     put_word(&mut response, 13, done.tally.aborts);
     put_word(&mut response, 17, done.tally.waits);
+    put_word(&mut response, 21, done.hidden);
     put_machine(&mut response, done.machine);
     write_step(&response);
 }

@@ -3,3 +3,5 @@ pub mod ExactlyOnce
 pub mod Accounts
 pub mod CallLength
 pub mod TakesApart
+pub mod Hidden
+pub mod TakeStores

@@ -1,6 +1,6 @@
 -- No step of the machine depends on a task's number: a machine whose tasks are numbered anew does what the machine does, numbered anew.
 use mathlib.Core.Path.{_≡_, refl, ap, sym, _∙_}
-use mathlib.Core.Bool.{not, _&&_}
+use mathlib.Core.Bool.{cond, not, _&&_}
 use mathlib.Core.List.{List, [], _∷_, map, map-append}
 use Prim.Native.Nat.{ℕ}
 use lib.Dec.{eqb}
@@ -14,12 +14,12 @@ use Rattle.stores.specs.StoreBuffer.{clientStore, dropOldest, oldest, pending, 
 use Rattle.machine.specs.Worker.{atEnd, atOrAboveHead, headIsPast, isFull, loads, workerInRange, workerMove, workerRuns}
 use Rattle.machine.specs.Thief.{idleThief, keepsMargin, loads as thiefLoads, thiefInRange, thiefMove, thiefRuns}
 use Rattle.machine.specs.Machine.{done, fresh, hasRoom, memoryLoad, memoryLoads, nothingPending, thiefCall, workerLoad, workerLoads, workerTail}
-use Rattle.machine.specs.Update.{withMemory, withThief, withWorker}
+use Rattle.machine.specs.Update.{withLock, withMemory, withStore, withThief, withWorker}
 use Rattle.machine.specs.InRange.{inRange}
 use Rattle.machine.specs.Obey.{obey, obeyInRange, outcomesOf, thiefIsThere}
 use Rattle.machine.specs.Perform.{thiefView, workerView, performWorker, stepOfWorker, performThief, stepOfThief}
-use Rattle.machine.specs.Entries.{drain, unlessWorkerRuns, workerGoesOn}
-use Rattle.properties.specs.Types.{Entry, Drain, ClientStore, BeginPut, BeginTake, WorkerStep, BeginSteal, ThiefStep, Done, Index, Load, NoSlot, SlotOf, Machine, Outcome, Moved, Sizes, Store, StoreBuffer, StoreKind, Client, Tail, Slot, Push, Nothing, One, TheClient, Spacing, Thief, ThiefCall, StealLock, StealLoadHead, StealRaiseHead, StealLoadTail, StealLoadSlot, StealUnlockTask, StealRestoreHead, StealUnlockAbort, ThiefView, ThiefMove, WorkerCall, PutLoadHead, PutStoreSlot, PutStoreTail, TakeStoreTail, TakeLoadHead, TakeLoadSlot, TakeLock, TakeReloadHead, TakeRestoreTail, TakeUnlockEmpty, TakeUnlockTask, TakeLoadLastSlot, WorkerView, WorkerMove}
+use Rattle.machine.specs.Entries.{drain, drained, unlessWorkerRuns, workerGoesOn}
+use Rattle.properties.specs.Types.{Entry, Drain, ClientStore, BeginPut, BeginTake, WorkerStep, BeginSteal, ThiefStep, Done, Index, Load, NoSlot, SlotOf, Machine, Outcome, Moved, Wait, Sizes, Store, StoreBuffer, StoreKind, Client, Tail, Slot, Push, Nothing, One, TheClient, Spacing, Thief, ThiefCall, StealLock, StealLoadHead, StealRaiseHead, StealLoadTail, StealLoadSlot, StealUnlockTask, StealRestoreHead, StealUnlockAbort, ThiefView, ThiefMove, WorkerCall, PutLoadHead, PutStoreSlot, PutStoreTail, TakeStoreTail, TakeLoadHead, TakeLoadSlot, TakeLock, TakeReloadHead, TakeRestoreTail, TakeUnlockEmpty, TakeUnlockTask, TakeLoadLastSlot, WorkerView, WorkerMove}
 use Rattle.properties.specs.Renumbering.{BlindToNumbers, renumberEntry, renumberOutcome}
 
 -- the thieves replaced
@@ -75,7 +75,7 @@ module _ (f : ℕ → ℕ) where
       (withWorker (renumberWorker (m .worker .call)) (withThieves (map renumberThief (m .thieves)) m))
 
   abbrev renumberDone : Done → Done
-  renumberDone d = record { machine = renumber (d .machine); outcome = renumberOutcome f (d .outcome) }
+  renumberDone d = done (renumberOutcome f (d .outcome)) (renumber (d .machine))
 
   -- .. what a party sees, and what its step does
 
@@ -193,6 +193,9 @@ module _ (f : ℕ → ℕ) where
   count-renumber Nothing s = refl
   count-renumber (One w k) s = refl
 
+  store-renumber : (p : Push) (m : Machine) → withStore (renumberPush p) (renumber m) ≡ renumber (withStore p m)
+  store-renumber p m = rw (push-renumber p (m .buffer), count-renumber p (m .spacing))
+
   -- a drain: what the oldest store leaves in the slots, the oldest store, and the others
   slots-renumber : (n : ℕ) (l : List ℕ) (k : StoreKind) → slotsAfter n (map f l) (renumberKind k) ≡ map f (slotsAfter n l k)
   slots-renumber n l Client = refl
@@ -205,8 +208,8 @@ module _ (f : ℕ → ℕ) where
   drop-oldest-renumber : (b : StoreBuffer) → dropOldest (renumberBuffer b) ≡ renumberBuffer (dropOldest b)
   drop-oldest-renumber b = simp (map-append, map-drop, map-take)
 
-  drain-renumber : (m : Machine) → drain (renumber m) ≡ renumberDone (drain m)
-  drain-renumber m =
+  drained-renumber : (m : Machine) → drained (renumber m) ≡ renumber (drained m)
+  drained-renumber m =
       let k = oldest (m .buffer) .kind in
       rw (
         oldest-renumber (m .buffer),
@@ -214,7 +217,9 @@ module _ (f : ℕ → ℕ) where
         kind-blind (tailAfter (m .tail)) (λ i x. refl) k,
         drop-oldest-renumber (m .buffer),
       )
-      (cond-map renumberDone (not (nothingPending m)) refl refl)
+
+  drain-renumber : (m : Machine) → drain (renumber m) ≡ renumberDone (drain m)
+  drain-renumber m = cond-map renumberDone (not (nothingPending m)) (ap (done Moved) (drained-renumber m)) refl
 
   -- a beginning or a client store, unless the worker's call runs
   unless-renumber : (m : Machine) (d : Done) {r : Done} → r ≡ renumberDone d
@@ -295,7 +300,7 @@ module _ (f : ℕ → ℕ) where
         let d = workerMove c (workerView m c) in
         let sees : workerView (renumber m) (renumberWorker c) ≡ renumberWorkerView (workerView m c) =
         rw (worker-blind loads (λ x. refl) (λ x. refl) c, worker-loads-renumber m (loads c), tail-renumber m) in
-        let does : performWorker (renumber m) (renumberWorkerMove d) ≡ renumberDone (performWorker m d) = rw (push-renumber (d .push) (m .buffer), count-renumber (d .push) (m .spacing)) in
+        let does : performWorker (renumber m) (renumberWorkerMove d) ≡ renumberDone (performWorker m d) = ap (λ n. done (renumberOutcome f (d .outcome)) (withWorker (renumberWorker (d .call)) (withLock (d .lock .holder) n))) (store-renumber (d .push) m) in
         ap (λ v. performWorker (renumber m) (workerMove (renumberWorker c) v)) sees ∙ ap (performWorker (renumber m)) (work-renumber c (workerView m c)) ∙ does
 
     thief-step-renumber : (i : ℕ) (m : Machine) (c : ThiefCall)
@@ -311,7 +316,7 @@ module _ (f : ℕ → ℕ) where
     -- each entry, each list
     obey-in-range-renumber : (m : Machine) (e : Entry) → obeyInRange (renumber m) (renumberEntry f e) ≡ renumberDone (obeyInRange m e)
     obey-in-range-renumber m Drain = drain-renumber m
-    obey-in-range-renumber m ClientStore = unless-renumber m _ (rw (push-renumber (One TheClient Client) (m .buffer)) (cond-map renumberDone (hasRoom m) refl refl))
+    obey-in-range-renumber m ClientStore = unless-renumber m _ (cond-map renumberDone (hasRoom m) (ap (done Moved) (store-renumber (One TheClient Client) m)) refl)
     obey-in-range-renumber m (BeginPut x) = unless-renumber m (workerGoesOn (PutLoadHead x) m) refl
     obey-in-range-renumber m BeginTake = unless-renumber m _ (cond-map renumberDone (tooEarly (m .spacing) (m .sizes .spacing)) refl refl)
     obey-in-range-renumber m WorkerStep = worker-step-renumber m (m .worker .call)
@@ -322,8 +327,10 @@ module _ (f : ℕ → ℕ) where
 
     obey-renumber : (m : Machine) (e : Entry) → obey (renumber m) (renumberEntry f e) ≡ renumberDone (obey m e)
     obey-renumber m e =
-        rw (in-range-renumber m, entry-blind (m .sizes) e)
-        (cond-map renumberDone (inRange m && thiefIsThere (m .sizes) e) (obey-in-range-renumber m e) refl)
+        let ranged = in-range-renumber m in
+        let there = entry-blind (m .sizes) e in
+        ap (λ t. cond t (obeyInRange (renumber m) (renumberEntry f e)) (done Wait (renumber m))) (λ i. ranged i && there i)
+        ∙ cond-map renumberDone (inRange m && thiefIsThere (m .sizes) e) (obey-in-range-renumber m e) refl
 
     outcomes-renumber : (m : Machine) (es : List Entry)
         → outcomesOf (renumber m) (map (renumberEntry f) es) ≡ map (renumberOutcome f) (outcomesOf m es)

@@ -4,9 +4,13 @@
 -- no task is lost or given twice        ExactlyOnce, Accounts
 -- how many steps a call has              CallLength
 -- when a take is too early               TakesApart
+-- how far memory lags at most            Hidden
+-- whose the pending stores are           TakeStores
 pub mod Types
 pub mod Renumbering
 pub mod ExactlyOnce
 pub mod Accounts
 pub mod CallLength
 pub mod TakesApart
+pub mod Hidden
+pub mod TakeStores

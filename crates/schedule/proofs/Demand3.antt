@@ -1,5 +1,5 @@
 -- Demand 3 of a trace that was written: `machine`'s theorem, of the file's entries, and the answers in the trace's bytes, which are those of the outcomes.
-use mathlib.Core.Path.{_≡_, refl, ap, subst, sym, _∙_}
+use mathlib.Core.Path.{_≡_, refl, ap, sym, _∙_}
 use mathlib.Core.Bool.{Bool, true, false, cond}
 use mathlib.Core.List.{List, [], _∷_, _++_, map, map-map}
 use Prim.Native.Nat.{ℕ, _≤_}
@@ -18,13 +18,10 @@ use Rattle.machine.specs.Machine.{fresh}
 use Rattle.machine.specs.Obey.{outcomesOf}
 use Rattle.machine.proofs.Linearizable.Theorem.{demand3}
 use Rattle.machine.proofs.Linearizable.Watched.{events-outcomes}
-use Rattle.schedule.specs.Types.{Accepted, Entry, Ran, Reading, Running, Sizes, Tally}
+use Rattle.schedule.specs.Types.{Accepted, Entry, Ran, Reading, Sizes, Summary}
 use Rattle.schedule.specs.declared.reader.Reading.the-variants as reading
-use Rattle.schedule.specs.Demand3.{RunLinearizes, TraceLinearizes, answerIn, answersIn, plainAnswers}
-use Rattle.terms.specs.Refusal.{Refuses}
-use Rattle.schedule.specs.Faults.{refusalInRunning, runHas}
+use Rattle.schedule.specs.Demand3.{RunLinearizes, answerIn, answersIn, plainAnswers}
 use Rattle.properties.proofs.ExactlyOnce.{none-lost-or-given-twice}
-use Rattle.schedule.proofs.Faults.{runner-refuses-faults}
 use Rattle.schedule.specs.Format.{allBelow, entriesIn, sizesIn}
 use Rattle.number.specs.Number.{overwritten}
 use Rattle.schedule.specs.Reader.{readFile}
@@ -63,7 +60,7 @@ answers-plain s es claim =
 -- ── A file that was run ─────────────────────────────────────────────────────────────────────────────────────────────────────
 
 -- what was run was accepted
-ran-accepted : (file : List ℕ) (room : ℕ) (t : Tally) → runFile file room ≡ Ran t → readFile file ≡ Accepted (sizesIn file) (entriesIn file)
+pub ran-accepted : (file : List ℕ) (room : ℕ) (t : Summary) → runFile file room ≡ Ran t → readFile file ≡ Accepted (sizesIn file) (entriesIn file)
 ran-accepted file room t e = go (readFile file) refl e
   where
     go : (r : Reading) → readFile file ≡ r → runningOf file room r ≡ Ran t → readFile file ≡ Accepted (sizesIn file) (entriesIn file)
@@ -91,18 +88,3 @@ run-linearizes file trace bytes t ran margin =
       linearizable = claim;
       once = none-lost-or-given-twice s es (ranges-sizes s n (readable .ranges)) margin (omega arith);
     }
-
--- what `run` promises, of the answer and the buffer that it hands back
-pub run-promises : (file trace : List ℕ) → allBelow 256 file ≡ true → (answer : Running) (after : List ℕ)
-    → answer ≡ runFile file (length trace) → after ≡ traceAfter file trace
-    → (answer ≡ runFile file (length trace)) × ((after ≡ traceAfter file trace) × (RunLinearizes file after answer × Refuses (runHas file (length trace)) (refusalInRunning answer)))
-run-promises file trace bytes answer after told held = (
-  told,
-  (
-    held,
-    (
-      λ t ran enough. subst (TraceLinearizes (sizesIn file) (scheduleIn file) (entriesIn file)) (sym held) (run-linearizes file trace bytes t (sym told ∙ ran) enough),
-      subst (λ r. Refuses (runHas file (length trace)) (refusalInRunning r)) (sym told) (runner-refuses-faults file (length trace)),
-    ),
-  ),
-)

@@ -7,3 +7,5 @@ pub mod Parts
 pub mod Totals
 pub mod Schedules
 pub mod Demand3
+pub mod Hidden
+pub mod Promises

@@ -12,7 +12,7 @@ use Rattle.schedule.specs.Entries.{entryAt}
 use Rattle.schedule.specs.Format.{entriesIn, kindsIn, operandsIn, sizesIn, wordsIn}
 use Rattle.schedule.specs.Parts.{EntriesAsRead, EntryOfFile, PartsOfAccepted, ReadByParts, RunByParts}
 use Rattle.schedule.specs.Reader.{holdsKinds, kindPart, kindStart, operandPart, operandStart, readFile, readingOf}
-use Rattle.schedule.specs.Run.{outcomesFrom, outcomesIn, traceIf, tracePut}
+use Rattle.schedule.specs.Run.{outcomesFrom, outcomesIn, summaryFrom, traceIf, tracePut}
 use Rattle.schedule.specs.Trace.{traceFits, traceOf}
 use Rattle.schedule.proofs.Laws.Reader.{Readable, accepted-readable, kinds-cut, kinds-taken, length-operands-cut, operands-cut, operands-drop, parts-checked, readable-accepted, sizes-decide}
 use Rattle.schedule.proofs.Laws.Run.{outcomes-counted, parts-obeyed, run-with-room, trace-fits, trace-put}
@@ -87,6 +87,7 @@ run-by-parts file s n accepted =
     let parts = parts-obeyed file s n accepted in
     let same = sym ((λ i. outcomesFrom s (kindPart file (accepted i)) (wordsIn (operandPart file (accepted i)))) ∙ parts .outcomes) in (
       same,
+      sym ((λ i. summaryFrom s (kindPart file (accepted i)) (wordsIn (operandPart file (accepted i)))) ∙ parts .summary),
       λ trace enough.
           let fits = ap (λ k. traceFits k (length trace)) (outcomes-counted file s n accepted) ∙ trace-fits n (length trace) (parts .few) enough in
           ap (traceIf (traceOf (outcomesIn file)) trace) (run-with-room file (length trace) s n accepted enough)

@@ -2,7 +2,7 @@
 use mathlib.Core.Path.{_≡_, refl, ap, sym, _∙_}
 use mathlib.Core.Bool.{Bool, true, false, _&&_}
 use mathlib.Core.List.{List, [], _∷_, _++_, map, map-append}
-use Prim.Native.Nat.{ℕ, zero, suc, _≤_, _<_}
+use Prim.Native.Nat.{ℕ, zero, suc, _≤_, _<_, max}
 use native.Mathlib.Nat.{le-of-suc-le-suc, not-suc-le-zero}
 use native.Mathlib.Numerals.{add-one}
 use native.Mathlib.Omega.{arith}
@@ -11,18 +11,20 @@ use lib.ListN.{getD, length, replicate, take}
 use lib.Seq.{take-length, take-suc}
 use borrow.Author.Tests.{le-ltb}
 use Rattle.terms.specs.Kinds.{kindOf, operandOf}
+use Rattle.terms.specs.Lists.{largest}
 use Rattle.terms.specs.Tally.{counted, noneCounted}
 use Rattle.machine.specs.InRange.{inRange}
 use Rattle.machine.specs.Machine.{fresh}
 use Rattle.machine.proofs.Laws.Obey.{out-of-range-waits}
-use Rattle.machine.specs.Obey.{machineAfter, obey, outcomesOf, thiefIsThere}
+use Rattle.machine.proofs.Laws.Hidden.{hidden-out}
+use Rattle.machine.specs.Obey.{hiddenOf, machineAfter, obey, outcomesOf, thiefIsThere}
 use Rattle.machine.proofs.Laws.InRange.{bounds}
 use Rattle.terms.specs.Sizes.{sizesInRange}
 use Rattle.terms.specs.declared.outcome.Outcome.the-variants.{Moved, Wait}
 use Rattle.schedule.specs.Types.{Drain, Entry, Machine, Passed, Sizes, Tally, ThiefStep}
 use Rattle.schedule.specs.Entries.{checkEntries, entryToObey}
 use Rattle.schedule.specs.Format.{entriesIn, kindsIn, operandsIn, sizesIn}
-use Rattle.schedule.specs.Run.{AnyArraysObeyed, NoEntryWaits, RunBySteps, ScheduleOfFile, afterSteps, entriesOf, outcomesOfSteps}
+use Rattle.schedule.specs.Run.{AnyArraysObeyed, NoEntryWaits, RunBySteps, ScheduleOfFile, afterSteps, entriesOf, hiddenOfSteps, outcomesOfSteps}
 use Rattle.schedule.specs.Totals.{countedFrom}
 use Rattle.schedule.proofs.Laws.Entries.{entry-as-read, entryAt-both}
 use Rattle.schedule.proofs.Laws.Format.{length-kindsIn, length-operandsIn}
@@ -35,12 +37,16 @@ steps-outcomes : (m : Machine) (t : Tally) (es : List Entry) → outcomesOfSteps
 steps-outcomes m t [] = refl
 steps-outcomes m t (e ∷ es) = ap (λ os. obey m e .outcome ∷ os) (steps-outcomes (obey m e .machine) (counted t (obey m e .outcome)) es)
 
+steps-hidden : (m : Machine) (t : Tally) (es : List Entry) → hiddenOfSteps m t es ≡ hiddenOf m es
+steps-hidden m t [] = refl
+steps-hidden m t (e ∷ es) = ap (λ ns. obey m e .hidden ∷ ns) (steps-hidden (obey m e .machine) (counted t (obey m e .outcome)) es)
+
 steps-after : (m : Machine) (t : Tally) (es : List Entry) → afterSteps m t es ≡ (machineAfter m es, countedFrom t (outcomesOf m es))
 steps-after m t [] = refl
 steps-after m t (e ∷ es) = steps-after (obey m e .machine) (counted t (obey m e .outcome)) es
 
 pub run-by-steps : RunBySteps
-run-by-steps s es = (steps-outcomes (fresh s) noneCounted es, steps-after (fresh s) noneCounted es)
+run-by-steps s es = (steps-outcomes (fresh s) noneCounted es, steps-hidden (fresh s) noneCounted es, steps-after (fresh s) noneCounted es)
 
 -- ── What nobody has checked ─────────────────────────────────────────────────────────────────────────────────────────────────
 
@@ -66,6 +72,13 @@ all-wait m out (e ∷ es) =
     let waits = out-of-range-waits m e (ap (λ b. b && thiefIsThere (m .sizes) e) out) in
     (λ i. waits i .outcome ∷ outcomesOf (waits i .machine) es) ∙ ap (λ os. Wait ∷ os) (all-wait m out es)
 
+-- .. and hands on 0
+none-hidden : (m : Machine) → inRange m ≡ false → (es : List Entry) → largest (hiddenOf m es) ≡ 0
+none-hidden m out [] = refl
+none-hidden m out (e ∷ es) =
+    let waits = out-of-range-waits m e (ap (λ b. b && thiefIsThere (m .sizes) e) out) in
+    (λ i. max (waits i .hidden) (largest (hiddenOf (waits i .machine) es))) ∙ (λ i. max (hidden-out m out i) (none-hidden m out es i))
+
 fresh-out : (s : Sizes) → sizesInRange s ≡ false → inRange (fresh s) ≡ false
 unfolding inRange
 fresh-out s out = rw out
@@ -81,6 +94,7 @@ any-arrays-obeyed s kinds operands =
           ∙ ap (λ e. obey (machineAfter (fresh s) (take at es)) e .outcome) (entry-there s kinds operands at inside ∙ ap entryToObey refused)
           ∙ ap (λ d. d .outcome) (no-entry-waits (machineAfter (fresh s) (take at es)) r);
       out-of-range = λ out. all-wait (fresh s) (fresh-out s out) es ∙ ap (λ n. replicate n Wait) count;
+      nothing-hidden = λ out. none-hidden (fresh s) (fresh-out s out) es;
     }
 
 -- ── All entries of a file ───────────────────────────────────────────────────────────────────────────────────────────────────

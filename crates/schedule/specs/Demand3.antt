@@ -11,7 +11,7 @@ use Rattle.properties.specs.ExactlyOnce.{ExactlyOnce}
 use Rattle.terms.specs.Lists.{concatMap, range}
 use Rattle.terms.specs.Outcome.{isAnswerNumber}
 use Rattle.terms.specs.Sizes.{enoughMargin}
-use Rattle.schedule.specs.Types.{Entry, Ran, Running, Sizes, Tally}
+use Rattle.schedule.specs.Types.{Entry, Ran, Running, Sizes, Summary}
 use Rattle.schedule.specs.Format.{entriesIn, sizesIn}
 use Rattle.schedule.specs.Run.{scheduleIn}
 use Rattle.schedule.specs.Trace.{Line, lineIn, lineOf}
@@ -39,5 +39,5 @@ pub record TraceLinearizes (s : Sizes) (es : List Entry) (entries : ℕ) (trace 
 -- a file that was run, with enough margin
 abbrev pub RunLinearizes : List ℕ → List ℕ → Running → Type 0
 RunLinearizes file trace answer =
-    (t : Tally) → answer ≡ Ran t → enoughMargin (sizesIn file) ≡ true
+    (t : Summary) → answer ≡ Ran t → enoughMargin (sizesIn file) ≡ true
     → TraceLinearizes (sizesIn file) (scheduleIn file) (entriesIn file) trace

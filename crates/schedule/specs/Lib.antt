@@ -9,10 +9,11 @@
 -- one entry, the first faulty one, and
 -- the one to obey                       Entries
 -- reading: the order of its checks      Reader
--- the three totals                      Tally, of `terms`; Totals
+-- totals, and how far memory lagged     Tally, of `terms`; Totals
 -- the trace, and what stands in it      Trace
 -- running a file, and one step          Run
 -- demand 3 of a trace                   Demand3
+-- how far memory lags at most           Hidden
 -- what is refused, and for what; that
 -- the first faulty entry is told        Faults
 -- the parts of an accepted file         Parts
@@ -27,6 +28,7 @@ pub mod Totals
 pub mod Trace
 pub mod Run
 pub mod Demand3
+pub mod Hidden
 pub mod Faults
 pub mod Parts
 pub mod Edges

@@ -1,13 +1,14 @@
--- The totals of a run. Renders, of "The program's lines", the sentence on the last line and the one on the running tally.
+-- What a run tells of all its entries together. Renders, of "The program's lines", the sentence on the last line and the one on the running tally, and of request 4, in 02, the largest number.
 use mathlib.Core.Path.{_≡_}
 use mathlib.Core.Bool.{cond}
 use mathlib.Core.List.{List, [], _∷_, map}
 use Prim.Native.Nat.{ℕ}
 use lib.Dec.{leb}
-use Rattle.terms.specs.Lists.{occurrences}
+use Rattle.terms.specs.Lists.{largest, occurrences}
 use Rattle.terms.specs.Outcome.{numberOf}
 use Rattle.terms.specs.Tally.{counted, noneCounted}
-use Rattle.schedule.specs.Types.{Outcome, Tally}
+use Rattle.machine.specs.Obey.{hiddenOf, outcomesOf}
+use Rattle.schedule.specs.Types.{Entry, Machine, Outcome, Summary, Tally}
 
 -- brought up to date by every outcome of a list, the first one first
 abbrev pub countedFrom : Tally → List Outcome → Tally
@@ -17,6 +18,10 @@ countedFrom t (o ∷ os) = countedFrom (counted t o) os
 -- the totals of a run with these outcomes
 abbrev pub tallyOf : List Outcome → Tally
 tallyOf os = countedFrom noneCounted os
+
+-- of the entries of a run from this machine: the totals of their outcomes, and the largest number of stores of take step 1 that were pending after any of them; 0 for no entries
+abbrev pub summaryOf : Machine → List Entry → Summary
+summaryOf m es = record { tally = tallyOf (outcomesOf m es); hidden = largest (hiddenOf m es) }
 
 -- ── What a total is ─────────────────────────────────────────────────────────────────────────────────────────────────────────
 

@@ -18,3 +18,4 @@ pub use Rattle.schedule.specs.declared.reader.Reading.the-variants.{Acce
 pub use Rattle.schedule.specs.declared.runner.Running.{Running}
 pub use Rattle.schedule.specs.declared.runner.Running.the-variants.{Ran}
 pub use Rattle.schedule.specs.declared.runner.Stepped.{Stepped}
+pub use Rattle.schedule.specs.declared.runner.Summary.{Summary}

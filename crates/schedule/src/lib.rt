@@ -7,11 +7,12 @@
 //     read             its sizes are decoded, and its entries checked by these (`check_entries`): each once
 //     kind_part,       its kinds and its operands, parts of the same bytes, so that nothing is copied
 //       operand_part
-//     obey_entries     from the sizes and the two parts: the totals, and the trace, if it fits the memory that is lent for it
+//     obey_entries     from the sizes and the two parts: a summary, and the trace, if it fits the memory that is lent for it
 //
 // `run` goes that way, and so do the libraries above that run files. `run` obeys nothing, and touches nothing of the memory that the caller lends
 // for the trace, unless the file is read and the trace fits. With enough margin the answers in that trace are those of a plain queue, and its
-// promise says so (`specs/Demand3.antt`). `step` is one entry of a run, to watch; `entry_at` is the entry to hand it.
+// promise says so (`specs/Demand3.antt`). A summary has the totals, and how far memory lagged behind the worker at most: how many stores of take step 1 were pending after an
+// entry, which is never more than the needed margin (`specs/Hidden.antt`). `step` is one entry of a run, to watch; `entry_at` is the entry to hand it.
 //
 // The reader goes by one layout (`specs/Format.antt`), and so does the writer, the library `writer`, which shares the check of the
 // sizes and the lengths of a file's parts. Sizes, entries with their kinds, outcomes, refusals and totals are those of the
@@ -42,6 +43,7 @@ pub use reader::read;
 pub use reader::refusal_of;
 pub use runner::Running;
 pub use runner::Stepped;
+pub use runner::Summary;
 pub use runner::obey_entries;
 pub use runner::run;
 pub use runner::step;

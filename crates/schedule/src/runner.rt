@@ -1,7 +1,7 @@
 ghost use mathlib.Core.Path.{_≡_};
 ghost use mathlib.Core.Bool.{cond};
 ghost use mathlib.Core.List.{[], _∷_};
-ghost use Prim.Native.Nat.{_+_, _*_, _<_};
+ghost use Prim.Native.Nat.{_+_, _*_, _<_, max};
 ghost use lib.ListN.{length};
 ghost use Rattle.machine.specs.Obey.{outcomesOf};
 ghost use Rattle.number.specs.Number.{littleEndian, overwritten};
@@ -10,8 +10,9 @@ ghost use Rattle.terms.specs.Refusal.{Refuses};
 ghost use Rattle.schedule.specs.Demand3.{RunLinearizes};
 ghost use Rattle.schedule.specs.Faults.{refusalInRunning, runHas};
 ghost use Rattle.schedule.specs.Format.{wordsIn};
-ghost use Rattle.schedule.specs.Run.{entriesOf, outcomesFrom, runFile, stepped, traceAfter, tracePut};
-ghost use Rattle.schedule.specs.Totals.{tallyOf};
+ghost use Rattle.schedule.specs.Hidden.{RunWithinNeeded};
+ghost use Rattle.schedule.specs.Run.{entriesOf, outcomesFrom, runFile, stepped, summaryFrom, traceAfter, tracePut};
+ghost use Rattle.schedule.specs.Totals.{summaryOf};
 ghost use Rattle.schedule.specs.Trace.{traceFits};
 use crate::entries::entry_at;
 use crate::layout::ENTRY_BYTES;
@@ -36,12 +37,22 @@ pub struct Stepped {
     pub tally: Tally,
     // The entry's outcome.
     pub outcome: Outcome,
+    // How many stores of take step 1 are pending in that machine; 0 where it is out of range.
+    pub hidden: u32,
+}
+
+// What a run tells of all its entries together.
+pub struct Summary {
+    // The totals of their outcomes.
+    pub tally: Tally,
+    // The largest number of stores of take step 1 that were pending after an entry; 0 for no entries.
+    pub hidden: u32,
 }
 
 // The answer of running a file.
 pub enum Running {
     // Every entry has its outcome, and the trace stands at the front of the buffer.
-    Ran(Tally),
+    Ran(Summary),
     // No entry was obeyed, and not a byte of the buffer was touched.
     Refused(Refusal),
 }
@@ -58,7 +69,15 @@ pub fn step(machine: Machine, tally: Tally, entry: Entry) -> Stepped
         machine: after,
         tally: counted,
         outcome: outcome,
+        hidden: done.hidden,
     }
+}
+
+// The larger of two numbers.
+fn larger(a: u32, b: u32) -> u32
+    ensures { λ r. ⌜ r ≡ max a b ⌝ }
+{
+    if a < b { b } else { a }
 }
 
 // Whether the trace of so many entries fits a buffer of so many bytes. There is none of more than 4,096 entries, as there is no file of more.
@@ -95,32 +114,37 @@ fn put_count(trace: &mut [u8], entries: usize)
 
 // The loop of `obey_entries`, from any machine. It stands by itself because the compiler copies the machine less in a function that is called from one place
 // (`docs/ARCHITECTURE.md`).
-fn obey_from(mut machine: Machine, kinds: &[u8], operands: &[u8], trace: &mut [u8]) -> Tally
-    ensures { λ r. ⌜ r ≡ tallyOf (outcomesOf machine (entriesOf (machine .sizes) (now (kinds .entry)) (wordsIn (now (operands .entry))))) ⌝ }
+fn obey_from(mut machine: Machine, kinds: &[u8], operands: &[u8], trace: &mut [u8]) -> Summary
+    ensures { λ r. ⌜ r ≡ summaryOf machine (entriesOf (machine .sizes) (now (kinds .entry)) (wordsIn (now (operands .entry)))) ⌝ }
     ensures { λ _. ⌜ now (trace .exit) ≡ tracePut (outcomesOf machine (entriesOf (machine .sizes) (now (kinds .entry)) (wordsIn (now (operands .entry))))) (now (trace .entry)) ⌝ }
 {
     let entries = kinds.len();
     let sizes = machine.sizes;
     let mut tally = Tally::none();
+    let mut hidden = 0;
     let mut at = 0;
     while at < entries {
         let entry = entry_at(sizes, kinds, operands, at);
         let done = machine.obey(entry);
         let outcome = done.outcome;
+        hidden = larger(hidden, done.hidden);
         machine = done.machine;
         tally = tally.counted(outcome);
         put_outcome(trace, entries, at, outcome);
         at += 1;
     }
     put_count(trace, entries);
-    tally
+    Summary {
+        tally: tally,
+        hidden: hidden,
+    }
 }
 
-// Obeys the entries of the two parts of a file, from the fresh machine with these sizes, tells the totals, and puts the trace into a buffer, if it fits; else the buffer
-// stays as it was, and whoever wants the totals alone lends an empty one. Whoever runs a file that was read, runs it by this function. It checks nothing: with sizes
-// out of range every outcome is 7, and so is that of a place with no allowed entry.
-pub fn obey_entries(sizes: Sizes, kinds: &[u8], operands: &[u8], trace: &mut [u8]) -> Tally
-    ensures { λ r. ⌜ r ≡ tallyOf (outcomesFrom sizes (now (kinds .entry)) (wordsIn (now (operands .entry)))) ⌝ }
+// Obeys the entries of the two parts of a file, from the fresh machine with these sizes, tells the totals and how far memory lagged at most, and puts the trace into a
+// buffer, if it fits; else the buffer stays as it was, and whoever wants the summary alone lends an empty one. Whoever runs a file that was read, runs it by this
+// function. It checks nothing: with sizes out of range every outcome is 7, and so is that of a place with no allowed entry.
+pub fn obey_entries(sizes: Sizes, kinds: &[u8], operands: &[u8], trace: &mut [u8]) -> Summary
+    ensures { λ r. ⌜ r ≡ summaryFrom sizes (now (kinds .entry)) (wordsIn (now (operands .entry))) ⌝ }
     ensures { λ _. ⌜ now (trace .exit) ≡ tracePut (outcomesFrom sizes (now (kinds .entry)) (wordsIn (now (operands .entry)))) (now (trace .entry)) ⌝ }
 {
     obey_from(Machine::fresh(sizes), kinds, operands, trace)
@@ -133,6 +157,7 @@ pub fn run(file: &[u8], trace: &mut [u8]) -> Running
     ensures { λ _. ⌜ now (trace .exit) ≡ traceAfter (now (file .entry)) (now (trace .entry)) ⌝ }
     ensures { λ r. ⌜ RunLinearizes (now (file .entry)) (now (trace .exit)) r ⌝ }
     ensures { λ r. ⌜ Refuses (runHas (now (file .entry)) (length (now (trace .entry)))) (refusalInRunning r) ⌝ }
+    ensures { λ r. ⌜ RunWithinNeeded (now (file .entry)) r ⌝ }
 {
     let reading = read(file);
     let Reading::Accepted(sizes, entries) = reading else {

@@ -1,14 +1,14 @@
 -- What the operations hand back at the edges of their ranges, and past them, as one table of tests. `proofs/Edges.antt` proves one fact: each passes.
 use mathlib.Core.Bool.{Bool, true, false, not}
-use mathlib.Core.List.{List, [], _∷_, _++_}
+use mathlib.Core.List.{List, [], _∷_, _++_, map}
 use Prim.Native.Nat.{ℕ}
 use lib.Dec.{eqb}
 use lib.IntN.{ℤ, pos, negsuc}
 use lib.ListN.{length, replicate}
-use Rattle.stores.specs.Types.{APut, ATake, Client, Index, Nobody, Nothing, One, Slot, Spacing, Tail, TheClient, StoreBuffer, TheThief, TheWorker}
+use Rattle.stores.specs.Types.{APut, ATake, Client, Index, Nobody, Nothing, One, Slot, Spacing, Store, Tail, TheClient, StoreBuffer, TheThief, TheWorker}
 use Rattle.stores.specs.Index.{aboveBy, belowByMore, eqZ, indexInRange, nextOrSame, previousOrSame, slotIndexInRange, slotOf}
 use Rattle.stores.specs.Lock.{isNobody}
-use Rattle.stores.specs.StoreBuffer.{clientStore, dropOldestOrSame, newestTail, pending, pushOrSame, pushedOrSame, slotAfter, storeInRange, tailStore}
+use Rattle.stores.specs.StoreBuffer.{clientStore, dropOldestOrSame, newestTail, pending, pushInRange, pushLowersTail, pushOrSame, pushedOrSame, scan, slotAfter, slotStore, storeInRange, tailStore, takeStores}
 use Rattle.stores.specs.Spacing.{countedInOrSame, noTake, spacingInRange, takeBegins, tooEarly}
 
 abbrev pub index : ℤ → Index
@@ -96,6 +96,45 @@ buffers =
     ∷ eqb (length (pending (holding 65))) 64
     ∷ []
 
+-- stores to the tail, one after the other
+abbrev pub tails : List ℤ → List Store
+tails l = map (λ z. tailStore (index z)) l
+
+-- a buffer that says it has so many of these pending
+abbrev pub holdingTails : ℕ → List ℤ → StoreBuffer
+holdingTails n l = record { stores = tails l; count = n }
+
+-- A tail store below the tail store before it, or the first below memory's tail: each once, however far below. Not one above it or at it, and no other store; what lies between two tail stores is nothing to them, nor are cells past
+-- those that are pending.
+abbrev pub lags : List Bool
+lags =
+    eqb (takeStores (index (pos 5)) []) 0
+    ∷ eqb (takeStores (index (pos 5)) (tails (pos 6 ∷ []))) 0
+    ∷ eqb (takeStores (index (pos 5)) (tails (pos 5 ∷ []))) 0
+    ∷ eqb (takeStores (index (pos 5)) (tails (pos 4 ∷ []))) 1
+    ∷ eqb (takeStores (index (pos 5)) (tails (pos 0 ∷ []))) 1
+    ∷ eqb (takeStores (index (pos 5)) (tails (pos 4 ∷ pos 3 ∷ []))) 2
+    ∷ eqb (takeStores (index (pos 5)) (tails (pos 4 ∷ pos 4 ∷ []))) 1
+    ∷ eqb (takeStores (index (pos 5)) (tails (pos 6 ∷ pos 5 ∷ []))) 1
+    ∷ eqb (takeStores (index (pos 5)) (tails (pos 3 ∷ pos 4 ∷ []))) 1
+    ∷ eqb (takeStores (index (pos 5)) (tails (pos 4 ∷ pos 5 ∷ pos 4 ∷ []))) 2
+    ∷ eqb (takeStores (index (pos 0)) (tails (negsuc 0 ∷ []))) 1
+    ∷ eqb (takeStores (index (negsuc 0)) (tails (pos 0 ∷ []))) 0
+    ∷ eqb (takeStores (index (pos 5)) (clientStore ∷ slotStore (index (pos 4)) 9 ∷ [])) 0
+    ∷ eqb (takeStores (index (pos 5)) (tails (pos 4 ∷ []) ++ clientStore ∷ slotStore (index (pos 2)) 9 ∷ tails (pos 3 ∷ []))) 2
+    ∷ eqb (takeStores (index (pos 5)) (slotStore (index (pos 9)) 3 ∷ clientStore ∷ tails (pos 6 ∷ []))) 0
+    ∷ eqb (scan (index (pos 5)) (holdingTails 1 (pos 4 ∷ pos 3 ∷ [])) .takes) 1
+    ∷ eqb (scan (index (pos 5)) (holdingTails 65 (pos 4 ∷ pos 3 ∷ [])) .takes) 2
+    ∷ eqZ (scan (index (pos 5)) (holdingTails 2 (pos 4 ∷ pos 3 ∷ [])) .tail .at) (pos 3)
+    ∷ scan (index (negsuc 1)) (holdingTails 1 (negsuc 0 ∷ negsuc 1 ∷ [])) .ranged
+    ∷ not (scan (index (pos 5)) (holdingTails 2 (negsuc 1 ∷ pos 0 ∷ [])) .ranged)
+    ∷ pushLowersTail (index (pos 5)) (One ATake (Tail (index (pos 4))))
+    ∷ not (pushLowersTail (index (pos 5)) (One APut (Tail (index (pos 6)))))
+    ∷ not (pushLowersTail (index (pos 5)) Nothing)
+    ∷ pushInRange Nothing
+    ∷ not (pushInRange (One ATake (Tail (index (negsuc 1)))))
+    ∷ []
+
 -- stores count once a take has begun, and the first take is free; a put's count as the client's do, a take's do not
 abbrev pub spacings : List Bool
 spacings =
@@ -122,4 +161,4 @@ spacings =
     ∷ []
 
 abbrev pub edges : List Bool
-edges = ranges ++ neighbours ++ distances ++ slots ++ locks ++ buffers ++ spacings
+edges = ranges ++ neighbours ++ distances ++ slots ++ locks ++ buffers ++ lags ++ spacings

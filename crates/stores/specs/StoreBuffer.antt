@@ -1,11 +1,13 @@
--- The store buffer. Renders, of the first paragraph of "The machine", the worker's pending stores, their drain and what the worker loads.
+-- The store buffer. Renders, of the first paragraph of "The machine", the worker's pending stores, their drain and what the worker loads; and, of request 4 in 02, how many pending stores are of take step 1.
 -- (How many may be pending: `hasRoom`, of `machine`.) It knows no step of a queue, and who makes a store (`Maker`) is nothing to it.
-use mathlib.Core.Bool.{Bool, true, cond, _||_}
-use mathlib.Core.List.{List, _∷_, _++_, foldl}
+use mathlib.Core.Bool.{Bool, true, false, cond, _&&_, _||_}
+use mathlib.Core.List.{List, [], _∷_, _++_, foldl}
 use Prim.Native.Nat.{ℕ, _+_, _-_}
 use lib.Dec.{eqb, leb, ltb}
 use lib.ListN.{getD, take, drop, set, replicate}
-use Rattle.stores.specs.Types.{Index, Store, StoreBuffer, StoreKind, Client, Tail, Slot, Push, Nothing, One}
+use lib.Signed.{ltZ}
+use Rattle.terms.specs.Lists.{all}
+use Rattle.stores.specs.Types.{Index, Scan, Store, StoreBuffer, StoreKind, Client, Tail, Slot, Push, Nothing, One}
 use Rattle.stores.specs.Index.{indexInRange, slotIndexInRange, slotOf}
 
 -- ── The pending stores ──────────────────────────────────────────────────────────────────────────────────────────────────────
@@ -31,6 +33,11 @@ abbrev pub storeInRange : StoreKind → Bool
 storeInRange Client = true
 storeInRange (Tail t) = indexInRange t
 storeInRange (Slot x i) = slotIndexInRange i
+
+-- .. of the store that an entry makes, if it makes one
+abbrev pub pushInRange : Push → Bool
+pushInRange Nothing = true
+pushInRange (One maker kind) = storeInRange kind
 
 -- ── First in, first out ─────────────────────────────────────────────────────────────────────────────────────────────────────
 
@@ -96,3 +103,30 @@ slotAfter n k v (Slot x i) = cond (eqb (slotOf n i) k) x v
 
 abbrev pub newestInSlot : ℕ → ℕ → ℕ → StoreBuffer → ℕ
 newestInSlot n k v b = foldl (λ u s. slotAfter n k u (s .kind)) v (pending b)
+
+-- ── How far memory lags ─────────────────────────────────────────────────────────────────────────────────────────────────────
+
+-- the store is to the tail, and below what was there before it
+abbrev pub lowersTail : Index → StoreKind → Bool
+lowersTail t Client = false
+lowersTail t (Tail u) = ltZ (u .at) (t .at)
+lowersTail t (Slot x i) = false
+
+-- How many of some stores, oldest first, are of take step 1: tail stores below the tail store before them or, for the first, below memory's tail, which is the index. (Of the worker's stores that of take
+-- step 1 alone lowers the tail.)
+abbrev pub takeStores : Index → List Store → ℕ
+takeStores t [] = 0
+takeStores t (a ∷ b) = cond (lowersTail t (a .kind)) 1 0 + takeStores (tailAfter t (a .kind)) b
+
+-- the store that an entry makes, if it makes one, is such a store
+abbrev pub pushLowersTail : Index → Push → Bool
+pushLowersTail t Nothing = false
+pushLowersTail t (One maker kind) = lowersTail t kind
+
+-- What finds the worker's newest tail also tells that number, and whether every pending store is in range: one look through them, from memory's tail on.
+abbrev pub scan : Index → StoreBuffer → Scan
+scan t b = record { ranged = all (λ s. storeInRange (s .kind)) (pending b); tail = newestTail t b; takes = takeStores t (pending b) }
+
+-- what one store more makes of it
+abbrev pub scanned : Scan → StoreKind → Scan
+scanned f k = record { ranged = f .ranged && storeInRange k; tail = tailAfter (f .tail) k; takes = cond (lowersTail (f .tail) k) (f .takes + 1) (f .takes) }

@@ -6,6 +6,7 @@ pub use Rattle.stores.specs.declared.lock.Holder.{Holder}
 pub use Rattle.stores.specs.declared.lock.Holder.the-variants.{Nobody, TheWorker, TheThief}
 pub use Rattle.stores.specs.declared.lock.Lock.{Lock}
 pub use Rattle.stores.specs.declared.spacing.Spacing.{Spacing}
+pub use Rattle.stores.specs.declared.store_buffer.Scan.{Scan}
 pub use Rattle.stores.specs.declared.store_buffer.Store.{Store}
 pub use Rattle.stores.specs.declared.store_buffer.StoreBuffer.{StoreBuffer}
 pub use Rattle.stores.specs.declared.store_buffer.StoreKind.{StoreKind}

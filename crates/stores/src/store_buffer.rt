@@ -1,15 +1,18 @@
 use crate::index::Index;
 use crate::index::slot_of;
 ghost use mathlib.Core.Path.{_≡_};
-ghost use Rattle.terms.specs.Lists.{all};
+ghost use Prim.Native.Nat.{_<_};
 ghost use Rattle.stores.specs.StoreBuffer.{
   dropOldestOrSame,
+  lowersTail,
   newestInSlot,
-  newestTail,
   oldest,
-  pending,
+  pushInRange,
+  pushLowersTail,
   pushOrSame,
   pushedOrSame,
+  scan,
+  scanned,
   slotAfter,
   slotsAfter,
   storeInRange,
@@ -56,21 +59,39 @@ pub struct StoreBuffer {
     pub count: usize,
 }
 
-impl Store {
+// What one look through the pending stores finds.
+pub struct Scan {
+    // Whether each is in range.
+    pub ranged: bool,
+    // The tail as the worker loads it.
+    pub tail: Index,
+    // How many are stores of take step 1: of the worker's stores these alone lower the tail.
+    pub takes: u32,
+}
+
+impl StoreKind {
     // Whether a machine may have it pending.
     pub fn in_range(self) -> bool
-        ensures { λ r. ⌜ r ≡ storeInRange (self .kind) ⌝ }
+        ensures { λ r. ⌜ r ≡ storeInRange self ⌝ }
     {
-        let kind = self.kind;
-        match kind {
+        match self {
             StoreKind::Client => true,
             StoreKind::Tail(tail) => tail.in_range(),
             StoreKind::Slot(_, index) => index.slot_in_range(),
         }
     }
-}
 
-impl StoreKind {
+    // Whether the store lowers the tail, from what was there.
+    pub fn lowers_tail(self, tail: Index) -> bool
+        ensures { λ r. ⌜ r ≡ lowersTail tail self ⌝ }
+    {
+        match self {
+            StoreKind::Client => false,
+            StoreKind::Tail(index) => !tail.at_most(index),
+            StoreKind::Slot(_, _) => false,
+        }
+    }
+
     // What the store leaves at the tail, from what was there.
     pub fn tail_after(self, tail: Index) -> Index
         ensures { λ r. ⌜ r ≡ tailAfter tail self ⌝ }
@@ -115,22 +136,71 @@ impl StoreKind {
     }
 }
 
+impl Scan {
+    // After one store more.
+    fn after(self, kind: StoreKind) -> Scan
+        requires { ⌜ self .takes < 64 ⌝ }
+        ensures { λ r. ⌜ r ≡ scanned self kind ⌝ }
+    {
+        let tail = self.tail;
+        let ranged = self.ranged & kind.in_range();
+        if kind.lowers_tail(tail) {
+            return Scan {
+                ranged: ranged,
+                tail: kind.tail_after(tail),
+                takes: self.takes + 1,
+            };
+        }
+        Scan {
+            ranged: ranged,
+            tail: kind.tail_after(tail),
+            takes: self.takes,
+        }
+    }
+}
+
+impl Push {
+    // Whether the store that is made, if one is, may be pending.
+    pub fn in_range(self) -> bool
+        ensures { λ r. ⌜ r ≡ pushInRange self ⌝ }
+    {
+        match self {
+            Push::Nothing => true,
+            Push::One(_, kind) => kind.in_range(),
+        }
+    }
+
+    // Whether a store is made that lowers the tail, from what the worker loads.
+    pub fn lowers_tail(self, tail: Index) -> bool
+        ensures { λ r. ⌜ r ≡ pushLowersTail tail self ⌝ }
+    {
+        match self {
+            Push::Nothing => false,
+            Push::One(_, kind) => kind.lowers_tail(tail),
+        }
+    }
+}
+
 impl StoreBuffer {
-    // The tail as the worker loads it, from memory's.
-    pub fn newest_tail(self, tail: Index) -> Index
-        ensures { λ r. ⌜ r ≡ newestTail tail self ⌝ }
+    // One look through the pending stores, from memory's tail on.
+    pub fn scan(self, tail: Index) -> Scan
+        ensures { λ r. ⌜ r ≡ scan tail self ⌝ }
     {
         let stores = self.stores;
         let count = self.count;
-        let mut newest = tail;
+        let mut found = Scan {
+            ranged: true,
+            tail: tail,
+            takes: 0,
+        };
         let mut i: usize = 0;
         while (i < count) & (i < 64) {
             let store = stores[i];
             let kind = store.kind;
-            newest = kind.tail_after(newest);
+            found = found.after(kind);
             i += 1;
         }
-        newest
+        found
     }
 
     // What the worker loads from this slot, from what memory has there.
@@ -148,22 +218,6 @@ impl StoreBuffer {
             i += 1;
         }
         newest
-    }
-
-    // Whether every pending store is in range.
-    pub fn in_range(self) -> bool
-        ensures { λ r. ⌜ r ≡ all (λ s. storeInRange (s .kind)) (pending self) ⌝ }
-    {
-        let stores = self.stores;
-        let count = self.count;
-        let mut ok = true;
-        let mut i: usize = 0;
-        while (i < count) & (i < 64) {
-            let store = stores[i];
-            ok = ok & store.in_range();
-            i += 1;
-        }
-        ok
     }
 
     // The store that has been pending longest; what the first cell holds, where none is pending.

@@ -2,8 +2,9 @@
 use mathlib.Core.Path.{_≡_}
 use mathlib.Core.Bool.{Bool, true, false, cond, _&&_}
 use mathlib.Core.List.{List, [], _∷_, _++_}
-use Prim.Native.Nat.{ℕ, zero, suc, _+_}
+use Prim.Native.Nat.{ℕ, zero, suc, _+_, _≤_, _<_, max}
 use lib.Dec.{eqb}
+use lib.ListN.{getD, length}
 
 module _ {A : Type 0} where
   -- the test passes at every element
@@ -41,3 +42,16 @@ equal (x ∷ l) (y ∷ m) = eqb x y && equal l m
 -- the same numbers, each as often, in whichever order
 abbrev pub Permutation : List ℕ → List ℕ → Type 0
 Permutation l m = (k : ℕ) → occurrences k l ≡ occurrences k m
+
+-- the largest of some numbers; 0 where there are none
+abbrev pub largest : List ℕ → ℕ
+largest [] = 0
+largest (x ∷ l) = max x (largest l)
+
+-- No number of the list is above it, and unless it is 0 it stands in the list. Proved in `proofs/Laws/Largest.antt`.
+pub record IsLargest (l : List ℕ) (n : ℕ) : Type 0 where
+  pub not-above : (i : ℕ) → getD l i 0 ≤ n
+  pub there : 0 < n → (i : ℕ) × ((i < length l) × (getD l i 0 ≡ n))
+
+abbrev pub LargestIsLargest : Type 0
+LargestIsLargest = (l : List ℕ) → IsLargest l (largest l)

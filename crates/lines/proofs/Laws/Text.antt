@@ -15,7 +15,7 @@ use Rattle.terms.specs.Lists.{all, concatMap, range}
 use Rattle.terms.proofs.Laws.Sums.{concatMap-append, range-suc}
 use Rattle.number.specs.Number.{overwritten}
 use Rattle.number.proofs.Laws.Overwritten.{overwritten-behind, overwritten-nothing}
-use Rattle.lines.specs.Text.{ascii, line, units}
+use Rattle.lines.specs.Text.{ascii, ending, line, units}
 
 -- A piece was put at a place: what is there afterwards, and where the piece ends.
 pub record Put (at : ℕ) (new before after : List ℕ) (end : ℕ) : Type 0 where
@@ -41,7 +41,7 @@ put-as at before same p =
 
 -- ── Lines ───────────────────────────────────────────────────────────────────────────────────────────────────────────────────
 
--- Words that each have a space behind them, and a last one with a line end behind it, are a line.
+-- Words that each have a space behind them, and a last one with a line end behind it, are a line; so it is with another end.
 
 pub three-words : (a b c : List ℕ) → (a ++ ascii " ") ++ (b ++ ascii " ") ++ (c ++ ascii "\n") ≡ line (a ∷ b ∷ c ∷ [])
 three-words a b c = simp append-assoc
@@ -49,10 +49,18 @@ three-words a b c = simp append-assoc
 pub four-words : (a b c d : List ℕ) → (a ++ ascii " ") ++ (b ++ ascii " ") ++ (c ++ ascii " ") ++ (d ++ ascii "\n") ≡ line (a ∷ b ∷ c ∷ d ∷ [])
 four-words a b c d = simp append-assoc
 
-pub six-words : (a b c d e f : List ℕ)
-    → (a ++ ascii " ") ++ (b ++ ascii " ") ++ (c ++ ascii " ") ++ (d ++ ascii " ") ++ (e ++ ascii " ") ++ (f ++ ascii "\n")
-    ≡ line (a ∷ b ∷ c ∷ d ∷ e ∷ f ∷ [])
-six-words a b c d e f = simp append-assoc
+pub six-words : (end a b c d e f : List ℕ)
+    → (a ++ ascii " ") ++ (b ++ ascii " ") ++ (c ++ ascii " ") ++ (d ++ ascii " ") ++ (e ++ ascii " ") ++ (f ++ end)
+    ≡ ending end (a ∷ b ∷ c ∷ d ∷ e ∷ f ∷ [])
+six-words end a b c d e f = simp append-assoc
+
+-- words with a space behind the last, and a line behind them, are a line
+pub ending-more : (a : List ℕ) (l : List (List ℕ)) (b : List ℕ) (m : List (List ℕ))
+    → ending (ascii " ") (a ∷ l) ++ line (b ∷ m) ≡ line ((a ∷ l) ++ (b ∷ m))
+ending-more a [] b m = append-assoc a (ascii " ") (line (b ∷ m))
+ending-more a (c ∷ l) b m =
+    append-assoc a (ascii " " ++ ending (ascii " ") (c ∷ l)) (line (b ∷ m))
+    ∙ ap (λ rest. a ++ (ascii " " ++ rest)) (ending-more c l b m)
 
 pub seven-words : (a b c d e f g : List ℕ)
     → (a ++ ascii " ") ++ (b ++ ascii " ") ++ (c ++ ascii " ") ++ (d ++ ascii " ") ++ (e ++ ascii " ") ++ (f ++ ascii " ") ++ (g ++ ascii "\n")

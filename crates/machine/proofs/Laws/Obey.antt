@@ -1,5 +1,5 @@
--- What every entry does, whatever the machine: refused, it leaves the machine as it is; it keeps the sizes; it answers only at steps; and
--- it waits where its thief is not there. One line for each step.
+-- What every entry does, whatever the machine: refused, it leaves the machine as it is; it keeps the sizes; it answers only at steps; it hands
+-- on the number for the machine that it returns; and it waits where its thief is not there. One line for each step.
 use mathlib.Core.Path.{_≡_, refl, ap, sym, _∙_, subst}
 use mathlib.Core.Bool.{Bool, true, false, and-false, cond, not, _&&_, false≢true}
 use mathlib.Core.List.{List}
@@ -12,12 +12,12 @@ use Rattle.stores.specs.Spacing.{tooEarly}
 use Rattle.claim.specs.Calls.{isStep, partyOf}
 use Rattle.claim.proofs.Lawful.{Lawful, isThere}
 use Rattle.machine.specs.Types.{Done, Entry, Drain, ClientStore, BeginPut, BeginTake, WorkerStep, BeginSteal, ThiefStep, Machine, Outcome, Moved, Place, Wait, Sizes, Thief, ThiefCall, StealLock, StealLoadHead, StealRaiseHead, StealLoadTail, StealLoadSlot, StealUnlockTask, StealRestoreHead, StealUnlockAbort, WorkerCall, PutLoadHead, PutStoreSlot, PutStoreTail, TakeStoreTail, TakeLoadHead, TakeLoadSlot, TakeLock, TakeReloadHead, TakeRestoreTail, TakeUnlockEmpty, TakeUnlockTask, TakeLoadLastSlot, ThiefMove, WorkerMove}
-use Rattle.machine.specs.Machine.{done, hasRoom, lockIsFree, nothingPending, thiefCall, thiefTail}
+use Rattle.machine.specs.Machine.{done, hasRoom, hidden, lockIsFree, nothingPending, thiefCall, thiefTail}
 use Rattle.machine.specs.InRange.{inRange}
 use Rattle.machine.specs.Worker.{atEnd, atOrAboveHead, headIsPast, isFull, stays, workerRuns}
 use Rattle.machine.specs.Update.{withThief, withWorker}
 use Rattle.machine.specs.Thief.{keepsMargin, thiefRuns, idleThief, stays as thiefStays}
-use Rattle.machine.specs.Obey.{OutOfRangeWaits, RefusalKeeps, obey, obeyInRange, thiefIsThere}
+use Rattle.machine.specs.Obey.{HandsOnHidden, OutOfRangeWaits, RefusalKeeps, obey, obeyInRange, thiefIsThere}
 use Rattle.machine.specs.Linearizable.{ffThe}
 use Rattle.machine.specs.Perform.{viewKeeping, workerView, performWorker, stepOfWorker, stepKeeping, performThief}
 
@@ -26,17 +26,18 @@ pub record Obeys (m : Machine) (e : Entry) (d : Done) : Type 0 where
   pub keeps : isRefusal (d .outcome) ≡ true → d .machine ≡ m
   pub sizes : d .machine .sizes ≡ m .sizes
   pub answers : isAnswer (d .outcome) ≡ true → isStep e ≡ true
+  pub hands-on : d .hidden ≡ hidden (d .machine)
 
 module _ {m : Machine} {e : Entry} where
   -- handed back as it was
   refuses : {o : Outcome} → isAnswer o ≡ false → Obeys m e (done o m)
-  refuses no-answer = record { keeps = λ r. refl; sizes = refl; answers = λ a. absurd (false≢true (sym no-answer ∙ a)) }
+  refuses no-answer = record { keeps = λ r. refl; sizes = refl; answers = λ a. absurd (false≢true (sym no-answer ∙ a)); hands-on = refl }
 
   moves : {n : Machine} → n .sizes ≡ m .sizes → Obeys m e (done Moved n)
-  moves same = record { keeps = λ r. absurd (false≢true r); sizes = same; answers = λ a. absurd (false≢true a) }
+  moves same = record { keeps = λ r. absurd (false≢true r); sizes = same; answers = λ a. absurd (false≢true a); hands-on = refl }
 
   answers : {n : Machine} {o : Outcome} → isRefusal o ≡ false → n .sizes ≡ m .sizes → isStep e ≡ true → Obeys m e (done o n)
-  answers no-refusal same step = record { keeps = λ r. absurd (false≢true (sym no-refusal ∙ r)); sizes = same; answers = λ a. step }
+  answers no-refusal same step = record { keeps = λ r. absurd (false≢true (sym no-refusal ∙ r)); sizes = same; answers = λ a. step; hands-on = refl }
 
 -- .. of a move of the worker's; and of one that leaves all as it is, where the worker's call is its own
 abbrev WorkerObeys : Machine → WorkerMove → Type 0
@@ -132,6 +133,10 @@ sizes-kept m e = obey-obeys m e .sizes
 -- 16 to 21 come only at steps
 pub answers-at-steps : (m : Machine) (e : Entry) → isAnswer (obey m e .outcome) ≡ true → isStep e ≡ true
 answers-at-steps m e answer = obey-obeys m e .answers answer
+
+-- each hands on the number for the machine that it returns
+pub hands-on-hidden : HandsOnHidden
+hands-on-hidden m e = obey-obeys m e .hands-on
 
 -- 7 WAIT where the thief is not there
 pub thief-there : (m : Machine) (e : Entry) → thiefIsThere (m .sizes) e ≡ false → obey m e ≡ done Wait m

@@ -9,9 +9,9 @@ use Rattle.machine.specs.Types.{Maker, One, Outcome, StoreKind, WorkerCa
 use Rattle.machine.specs.Worker.{atEnd, atOrAboveHead, headIsPast, isFull, storing, workerMove}
 
 -- a step makes a store only where there is room
-module _ (n : ℕ) (v : WorkerView) (fits : v .room ≡ true → n < 64) where
+module _ (places n : ℕ) (v : WorkerView) (fits : v .room ≡ true → n < places) where
   abbrev Fits : WorkerMove → Type 0
-  Fits d = pushFits (d .push) n
+  Fits d = pushFits places (d .push) n
 
   storing-fits : (w : Maker) (k : StoreKind) (o : Outcome) (c : WorkerCall) → Fits (storing (One w k) o c v)
   storing-fits w k o c = decide Fits (v .room) fits (λ e. tt)

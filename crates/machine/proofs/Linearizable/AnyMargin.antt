@@ -10,13 +10,13 @@ use borrow.Author.Tests.{le-leb}
 use Rattle.terms.specs.Sizes.{neededMargin, sizesInRange}
 use Rattle.terms.proofs.Laws.Lists.{all-each}
 use Rattle.stores.specs.Index.{indexInRange, slotIndexInRange}
-use Rattle.stores.specs.StoreBuffer.{pending}
+use Rattle.stores.specs.StoreBuffer.{pending, takeStores}
 use Rattle.stores.proofs.Laws.Index.{idx, idx-in-range, idx-slot-in-range}
-use Rattle.stores.proofs.Laws.Chain.{chain-needed, chain-takeStores, takeStores}
+use Rattle.stores.proofs.Laws.Chain.{chain-needed, chain-takeStores}
 use Rattle.claim.specs.Watch.{Watch, watchFresh, watched}
 use Rattle.machine.specs.Types.{Entry, Index, Machine, Sizes, ThiefCall, StealLock, StealLoadHead, StealRaiseHead, StealLoadTail, StealLoadSlot, StealUnlockTask, StealRestoreHead, StealUnlockAbort, WorkerCall, PutLoadHead, PutStoreSlot, PutStoreTail, TakeStoreTail, TakeLoadHead, TakeLoadSlot, TakeLock, TakeReloadHead, TakeRestoreTail, TakeUnlockEmpty, TakeUnlockTask, TakeLoadLastSlot}
 use Rattle.machine.specs.Thief.{idleThief, thiefInRange}
-use Rattle.machine.specs.Machine.{fresh, thiefCall}
+use Rattle.machine.specs.Machine.{fresh, takesPending, thiefCall}
 use Rattle.machine.specs.Worker.{workerInRange}
 use Rattle.machine.specs.InRange.{inRange}
 use Rattle.machine.specs.Obey.{machineAfter}
@@ -105,14 +105,14 @@ run-in-range s es ranged short =
 -- how many of the pending stores are a take's step 1 is at most the needed margin, after every list of entries
 pub run-take-stores :
     (s : Sizes) (es : List Entry) → sizesInRange s ≡ true
-    → takeStores (machineAfter (fresh s) es .tail) (pending (machineAfter (fresh s) es .buffer)) ≤ neededMargin (s .buffer) (s .spacing)
+    → takesPending (machineAfter (fresh s) es) ≤ neededMargin (s .buffer) (s .spacing)
 run-take-stores s es ranged =
     let v = run-invariant s 0 (watchFresh ffThe s) es (fresh-plain s ranged) in
     let m = watched ffThe (watchFresh ffThe s) es .machine in
     let b = v .sound .buffer in
     let short : length (pending (m .buffer)) ≤ m .sizes .buffer = simp length-take (omega (arith, b .fits)) in
-    let dips : takeStores (m .tail) (pending (m .buffer)) ≡ b .dips = ap (λ t. takeStores t (pending (m .buffer))) (b .tail-is) ∙ chain-takeStores (b .chain) in
+    let dips : takesPending m ≡ b .dips = ap (λ t. takeStores t (pending (m .buffer))) (b .tail-is) ∙ chain-takeStores (b .chain) in
     let few : b .dips ≤ neededMargin (m .sizes .buffer) (m .sizes .spacing) = chain-needed (m .sizes .buffer) (b .few) short (b .chain) in
-    let here : takeStores (m .tail) (pending (m .buffer)) ≤ neededMargin (m .sizes .buffer) (m .sizes .spacing) = omega arith in
-    subst (λ m. takeStores (m .tail) (pending (m .buffer)) ≤ neededMargin (s .buffer) (s .spacing)) (watched-machine (watchFresh ffThe s) es)
-    (subst (λ s. takeStores (m .tail) (pending (m .buffer)) ≤ neededMargin (s .buffer) (s .spacing)) (v .sizes-are) here)
+    let here : takesPending m ≤ neededMargin (m .sizes .buffer) (m .sizes .spacing) = omega arith in
+    subst (λ m. takesPending m ≤ neededMargin (s .buffer) (s .spacing)) (watched-machine (watchFresh ffThe s) es)
+    (subst (λ s. takesPending m ≤ neededMargin (s .buffer) (s .spacing)) (v .sizes-are) here)

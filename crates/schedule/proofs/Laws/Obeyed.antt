@@ -1,32 +1,35 @@
--- Laws of a run that has reached a place: what machine, totals and trace buffer are there; that it is so at first, and with each entry more; and what it says at the end. They hold from any machine on.
+-- Laws of a run that has reached a place: what machine, totals, largest number and trace buffer are there; that it is so at first, and with each entry more; and what it says at the end. They hold from any machine on.
 use mathlib.Core.Path.{_≡_, refl, ap, sym, _∙_}
 use mathlib.Core.Bool.{Bool, true, false, cond}
 use mathlib.Core.List.{List, [], _∷_, _++_}
-use Prim.Native.Nat.{ℕ, _+_, _*_, _<_}
+use Prim.Native.Nat.{ℕ, _+_, _*_, _<_, max}
 use native.Mathlib.Omega.{arith}
 use lib.ListN.{length}
 use Rattle.machine.specs.declared.machine.Done.{Done}
-use Rattle.machine.specs.Obey.{machineAfter, obey, outcomesOf}
+use Rattle.machine.specs.Obey.{hiddenOf, machineAfter, obey, outcomesOf}
+use Rattle.terms.specs.Lists.{largest}
 use Rattle.terms.specs.Outcome.{numberOf, valueOf}
 use Rattle.terms.specs.Tally.{counted, noneCounted}
+use Rattle.terms.proofs.Laws.Largest.{largest-more}
 use Rattle.terms.proofs.Laws.Tests.{either}
 use Rattle.schedule.specs.Types.{Entry, Machine, Outcome, Sizes, Tally}
 use Rattle.schedule.specs.Entries.{entryAt, entryToObey}
 use Rattle.number.specs.Number.{littleEndian, overwritten}
 use Rattle.schedule.specs.Run.{entriesOf, tracePut}
-use Rattle.schedule.specs.Totals.{tallyOf}
+use Rattle.schedule.specs.Totals.{summaryOf, tallyOf}
 use Rattle.schedule.specs.Trace.{traceFits, traceOf}
-use Rattle.schedule.proofs.Laws.Run.{entriesUpTo, entriesUpTo-more, fits-room, length-entriesUpTo, length-outcomesOf, machineAfter-more, outcomesOf-more, tallyOf-more}
+use Rattle.schedule.proofs.Laws.Run.{entriesUpTo, entriesUpTo-more, fits-room, hiddenOf-more, length-entriesUpTo, length-outcomesOf, machineAfter-more, outcomesOf-more, tallyOf-more}
 use Rattle.schedule.proofs.Laws.Trace.{traceSoFar, traceSoFar-all, traceSoFar-more, traceSoFar-none}
 
 -- the outcomes of the first entries
 abbrev pub outcomesUpTo : Machine → Sizes → List ℕ → List ℕ → ℕ → List Outcome
 outcomesUpTo m s kinds operands at = outcomesOf m (entriesUpTo s kinds operands at)
 
--- machine, totals and trace buffer after so many entries; l is the buffer as it was lent, and stays so if the trace does not fit
-pub record Obeyed (m : Machine) (s : Sizes) (kinds operands l trace : List ℕ) (machine : Machine) (tally : Tally) (at : ℕ) : Type 0 where
+-- machine, totals, largest number and trace buffer after so many entries; l is the buffer as it was lent, and stays so if the trace does not fit
+pub record Obeyed (m : Machine) (s : Sizes) (kinds operands l trace : List ℕ) (machine : Machine) (tally : Tally) (hidden at : ℕ) : Type 0 where
   pub machine-then : machine ≡ machineAfter m (entriesUpTo s kinds operands at)
   pub tally-then : tally ≡ tallyOf (outcomesUpTo m s kinds operands at)
+  pub hidden-then : hidden ≡ largest (hiddenOf m (entriesUpTo s kinds operands at))
   pub trace-then : trace ≡ cond (traceFits (length kinds) (length l)) (traceSoFar (length kinds) (outcomesUpTo m s kinds operands at) l) l
 
 module _ (m : Machine) (s : Sizes) (kinds operands l : List ℕ) where
@@ -36,9 +39,9 @@ module _ (m : Machine) (s : Sizes) (kinds operands l : List ℕ) where
   length-outcomesUpTo : (at : ℕ) → length (outcomesUpTo m s kinds operands at) ≡ at
   length-outcomesUpTo at = length-outcomesOf m (entriesUpTo s kinds operands at) ∙ length-entriesUpTo s kinds operands at
 
-  pub obeyed-none : (machine : Machine) (tally : Tally) → machine ≡ m → tally ≡ noneCounted → Obeyed m s kinds operands l l machine tally 0
+  pub obeyed-none : (machine : Machine) (tally : Tally) → machine ≡ m → tally ≡ noneCounted → Obeyed m s kinds operands l l machine tally 0 0
   obeyed-none machine tally same none =
-      record { machine-then = same; tally-then = none; trace-then = either (λ t. l ≡ t) (traceFits n (length l)) (traceSoFar-none n l) refl }
+      record { machine-then = same; tally-then = none; hidden-then = refl; trace-then = either (λ t. l ≡ t) (traceFits n (length l)) (traceSoFar-none n l) refl }
 
   -- the two stores of an outcome, if the trace fits
   abbrev stored : List Outcome → Outcome → List ℕ → List ℕ → Bool → Type 0
@@ -54,15 +57,16 @@ module _ (m : Machine) (s : Sizes) (kinds operands l : List ℕ) where
   trace-more os o more trace after false fits so-far put = put ∙ so-far
 
   -- what the step and the two stores of an entry leave
-  pub obeyed-more : (trace : List ℕ) (machine : Machine) (tally : Tally) (at : ℕ) → at < n → length trace ≡ length l
-      → Obeyed m s kinds operands l trace machine tally at
+  pub obeyed-more : (trace : List ℕ) (machine : Machine) (tally : Tally) (hidden at : ℕ) → at < n → length trace ≡ length l
+      → Obeyed m s kinds operands l trace machine tally hidden at
       → (e : Entry) → e ≡ entryToObey (entryAt s kinds operands at)
       → (done : Done) → done ≡ obey machine e
+      → (most : ℕ) → most ≡ max hidden (done .hidden)
       → (totals : Tally) → totals ≡ counted tally (done .outcome)
       → (after : List ℕ)
       → after ≡ cond (traceFits n (length trace)) (overwritten (4 + n + 4 * at) (littleEndian 4 (valueOf (done .outcome))) (overwritten (4 + at) (numberOf (done .outcome) ∷ []) trace)) trace
-      → Obeyed m s kinds operands l after (done .machine) totals (at + 1)
-  obeyed-more trace machine tally at inside long so-far e meant done by-obeying totals by-counting after put =
+      → Obeyed m s kinds operands l after (done .machine) totals most (at + 1)
+  obeyed-more trace machine tally hidden at inside long so-far e meant done by-obeying most by-comparing totals by-counting after put =
       let es = entriesUpTo s kinds operands at in
       let os = outcomesOf m es in
       -- the entry, as one for the machine and the totals that the entries before left
@@ -77,17 +81,18 @@ module _ (m : Machine) (s : Sizes) (kinds operands l : List ℕ) where
       record {
         machine-then = ap (λ d. d .machine) by-then ∙ sym (ap (machineAfter m) entries-more ∙ machineAfter-more m es _);
         tally-then = by-counting ∙ (λ i. counted (so-far .tally-then i) (by-then i .outcome)) ∙ sym (tallyOf-more os o) ∙ ap tallyOf outcomes-more;
+        hidden-then = by-comparing ∙ (λ i. max (so-far .hidden-then i) (by-then i .hidden)) ∙ sym (ap (λ es. largest (hiddenOf m es)) entries-more ∙ ap largest (hiddenOf-more m es _) ∙ largest-more (hiddenOf m es) _);
         trace-then =
             trace-more os o (omega arith) trace after (traceFits n (length l)) refl (so-far .trace-then) put-here
             ∙ ap (λ os. cond (traceFits n (length l)) (traceSoFar n os l) l) outcomes-more;
       }
 
   -- at the end the number of entries is all that the trace lacks
-  pub obeyed-all : (trace : List ℕ) (machine : Machine) (tally : Tally) (at : ℕ) → at ≡ n → length trace ≡ length l → Obeyed m s kinds operands l trace machine tally at
+  pub obeyed-all : (trace : List ℕ) (machine : Machine) (tally : Tally) (hidden at : ℕ) → at ≡ n → length trace ≡ length l → Obeyed m s kinds operands l trace machine tally hidden at
       → let os = outcomesOf m (entriesOf s kinds operands) in
-      (tally ≡ tallyOf os) × (cond (traceFits n (length trace)) (overwritten 0 (littleEndian 4 n) trace) trace ≡ tracePut os l)
-  obeyed-all trace machine tally at end long so-far = (
-    so-far .tally-then ∙ ap (λ at. tallyOf (outcomesUpTo m s kinds operands at)) end,
+      (record { tally = tally; hidden = hidden } ≡ summaryOf m (entriesOf s kinds operands)) × (cond (traceFits n (length trace)) (overwritten 0 (littleEndian 4 n) trace) trace ≡ tracePut os l)
+  obeyed-all trace machine tally hidden at end long so-far = (
+    (λ i. record { tally = so-far .tally-then i; hidden = so-far .hidden-then i }) ∙ ap (λ at. summaryOf m (entriesUpTo s kinds operands at)) end,
     ap (λ k. cond (traceFits n k) (overwritten 0 (littleEndian 4 n) trace) trace) long
         ∙ whole (traceFits n (length l)) refl (so-far .trace-then ∙ ap (λ at. cond (traceFits n (length l)) (traceSoFar n (outcomesUpTo m s kinds operands at) l) l) end)
         ∙ ap (λ k. cond (traceFits k (length l)) (overwritten 0 (traceOf os) l) l) count,

@@ -17,21 +17,21 @@ use Rattle.terms.specs.Tally.{counted, noneCounted}
 use Rattle.terms.proofs.Laws.Tests.{and-left, and-right, by-test, either}
 use Rattle.terms.specs.Lists.{all, range}
 use Rattle.machine.specs.Machine.{fresh}
-use Rattle.machine.specs.Obey.{machineAfter, obey, outcomesOf}
+use Rattle.machine.specs.Obey.{hiddenOf, machineAfter, obey, outcomesOf}
 use Rattle.properties.specs.Renumbering.{renumberEntry, renumberOutcome}
 use Rattle.terms.proofs.Laws.Lists.{all-getD}
 use Rattle.terms.proofs.Laws.Sums.{length-range, range-suc}
 use Rattle.properties.proofs.Renumbering.{blind-to-numbers}
 use Rattle.schedule.specs.Types.{BeginPut, BeginSteal, BeginTake, ClientStore, Drain, Entry, Refusal, ThiefStep, WorkerStep}
-use Rattle.schedule.specs.Types.{Accepted, Allowed, Machine, Meaning, Outcome, Passed, Ran, Room, Sizes, Tally}
+use Rattle.schedule.specs.Types.{Accepted, Allowed, Machine, Meaning, Outcome, Passed, Ran, Reading, Room, Running, Sizes, Summary, Tally}
 use Rattle.schedule.specs.declared.reader.Reading.the-variants as reading
 use Rattle.schedule.specs.declared.runner.Running.the-variants as running
 use Rattle.schedule.specs.Entries.{checkEntries, entryAt, entryToObey}
 use Rattle.schedule.specs.Format.{allBelow, entriesIn, kindsIn, operandsIn, sizesIn, wordsIn}
 use Rattle.schedule.specs.Reader.{kindPart, operandPart, readFile}
 use Rattle.number.specs.Number.{overwritten}
-use Rattle.schedule.specs.Run.{entriesOf, outcomesFrom, outcomesIn, runFile, runningOf, scheduleIn, tracePut}
-use Rattle.schedule.specs.Totals.{countedFrom, tallyOf}
+use Rattle.schedule.specs.Run.{entriesOf, outcomesFrom, outcomesIn, runFile, runningOf, scheduleIn, summaryFrom, summaryIn, tracePut}
+use Rattle.schedule.specs.Totals.{countedFrom, summaryOf, tallyOf}
 use Rattle.schedule.specs.Trace.{lineIn, lineOf, traceFits, traceLength, traceOf}
 use Rattle.schedule.proofs.Laws.Bytes.{allBelow-drop}
 use Rattle.schedule.proofs.Laws.Check.{few-entries, getD-map-rangeFrom, ranges-sizes}
@@ -50,6 +50,11 @@ pub outcomesOf-more : (m : Machine) (es : List Entry) (e : Entry)
     → outcomesOf m (es ++ (e ∷ [])) ≡ outcomesOf m es ++ (obey (machineAfter m es) e .outcome ∷ [])
 outcomesOf-more m [] e = refl
 outcomesOf-more m (d ∷ es) e = ap (λ l. obey m d .outcome ∷ l) (outcomesOf-more (obey m d .machine) es e)
+
+pub hiddenOf-more : (m : Machine) (es : List Entry) (e : Entry)
+    → hiddenOf m (es ++ (e ∷ [])) ≡ hiddenOf m es ++ (obey (machineAfter m es) e .hidden ∷ [])
+hiddenOf-more m [] e = refl
+hiddenOf-more m (d ∷ es) e = ap (λ l. obey m d .hidden ∷ l) (hiddenOf-more (obey m d .machine) es e)
 
 -- there are as many outcomes as entries
 pub length-outcomesOf : (m : Machine) (es : List Entry) → length (outcomesOf m es) ≡ length es
@@ -230,6 +235,7 @@ pub record PartsOf (file : List ℕ) (s : Sizes) (kinds operands : List ℕ) (n 
   pub allowed : checkEntries s kinds (wordsIn operands) ≡ Passed
   pub entries : entriesOf s kinds (wordsIn operands) ≡ scheduleIn file
   pub outcomes : outcomesFrom s kinds (wordsIn operands) ≡ outcomesIn file
+  pub summary : summaryFrom s kinds (wordsIn operands) ≡ summaryIn file
 
 pub parts-obeyed : (file : List ℕ) (s : Sizes) (n : ℕ) → readFile file ≡ Accepted s n → PartsOf file s (kindPart file (Accepted s n)) (operandPart file (Accepted s n)) n
 parts-obeyed file s n accepted =
@@ -247,12 +253,13 @@ parts-obeyed file s n accepted =
       allowed = (λ i. checkEntries s (kinds i) (operands i)) ∙ (λ i. checkEntries (same i) (kindsIn (count i) file) (operandsIn (count i) file)) ∙ read .1 .1 .each;
       entries = entries;
       outcomes = (λ i. outcomesOf (fresh s) (entries i)) ∙ ap (λ t. outcomesOf (fresh t) (scheduleIn file)) same;
+      summary = (λ i. summaryOf (fresh s) (entries i)) ∙ ap (λ t. summaryOf (fresh t) (scheduleIn file)) same;
     }
 
 -- ── What decides a run ──────────────────────────────────────────────────────────────────────────────────────────────────────
 
 -- a file is not both run and refused
-pub not-both-run : {t : Tally} {r : Refusal} → running.Refused r ≡ Ran t → ⊥
+pub not-both-run : {t : Summary} {r : Refusal} → running.Refused r ≡ Ran t → ⊥
 not-both-run e = let clash : _≡_ {A = ℕ} 0 1 = cc in omega arith
 
 module _ (file : List ℕ) (room : ℕ) where
@@ -261,10 +268,22 @@ module _ (file : List ℕ) (room : ℕ) where
 
   module _ (s : Sizes) (n : ℕ) (told : readFile file ≡ Accepted s n) where
     pub run-without-room : room < traceLength n → runFile file room ≡ running.Refused Room
-    run-without-room small = ap (runningOf file room) told ∙ by-test (running.Refused Room) (Ran (tallyOf (outcomesIn file))) (lt-ltb room (traceLength n) small)
+    run-without-room small = ap (runningOf file room) told ∙ by-test (running.Refused Room) (Ran (summaryIn file)) (lt-ltb room (traceLength n) small)
 
-    pub run-with-room : traceLength n ≤ room → runFile file room ≡ Ran (tallyOf (outcomesIn file))
-    run-with-room fits = ap (runningOf file room) told ∙ by-test (running.Refused Room) (Ran (tallyOf (outcomesIn file))) (le-ltb room (traceLength n) fits)
+    pub run-with-room : traceLength n ≤ room → runFile file room ≡ Ran (summaryIn file)
+    run-with-room fits = ap (runningOf file room) told ∙ by-test (running.Refused Room) (Ran (summaryIn file)) (le-ltb room (traceLength n) fits)
+
+-- what is told of a run is told of the file's entries
+pub ran-summary : (file : List ℕ) (room : ℕ) (t : Summary) → runFile file room ≡ Ran t → summaryIn file ≡ t
+ran-summary file room t e = go (readFile file) e
+  where
+    summary-of : Running → Summary
+    summary-of (Ran t) = t
+    summary-of (running.Refused r) = summaryIn file
+
+    go : (r : Reading) → runningOf file room r ≡ Ran t → summaryIn file ≡ t
+    go (Accepted s n) ran = sym (either (λ r. summary-of r ≡ summaryIn file) (ltb room (traceLength n)) refl refl) ∙ ap summary-of ran
+    go (reading.Refused r) ran = ap summary-of ran
 
 -- ── A trace that fits ───────────────────────────────────────────────────────────────────────────────────────────────────────
 

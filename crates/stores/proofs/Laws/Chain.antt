@@ -3,18 +3,17 @@
 -- most ⌈S / (s + 1)⌉ dips, and no pending index is further below memory's tail than that.
 --
 -- Indices are natural numbers, one above (`Laws.Index`). Nothing here knows which store is allowed when: whoever pushes shows that.
-use mathlib.Core.Path.{_≡_, refl, ap}
-use mathlib.Core.Bool.{Bool, false, cond}
+use mathlib.Core.Path.{_≡_, refl, ap, _∙_}
 use mathlib.Core.List.{List, [], _∷_, _++_, foldl}
 use Prim.Native.Nat.{ℕ, suc, _+_, _-_, _*_, _≤_, _<_}
 use native.Mathlib.Nat.{le-div-iff-mul-le, le-refl, suc-add, suc-mul, zero-add, zero-mul}
+use native.Mathlib.Numerals.{one-add}
 use native.Mathlib.Omega.{arith}
 use lib.ListN.{length}
-use lib.Signed.{ltZ}
 use borrow.Author.Tests.{le-ltb, lt-ltb}
 use Rattle.terms.specs.Sizes.{neededMargin}
-use Rattle.stores.specs.Types.{Index, Store, StoreKind, Client, Tail, Slot}
-use Rattle.stores.specs.StoreBuffer.{clientStore, slotStore, tailAfter, tailStore}
+use Rattle.stores.specs.Types.{Index, Store}
+use Rattle.stores.specs.StoreBuffer.{clientStore, slotStore, tailAfter, tailStore, takeStores}
 use Rattle.stores.proofs.Laws.Index.{idx, idx-lt}
 
 -- s: how many stores lie between dips; every slot store has an index below the bound. t: memory's tail. c: how many stores are still due
@@ -156,23 +155,11 @@ module _ {s bound : ℕ} where
 
 -- ── Take stores, counted in the list itself ─────────────────────────────────────────────────────────────────────────────────
 
--- the store lowers the tail
-abbrev pub lowersTail : Index → StoreKind → Bool
-lowersTail t Client = false
-lowersTail t (Tail u) = ltZ (u .at) (t .at)
-lowersTail t (Slot x i) = false
-
--- how many stores of a list lower the tail: of the worker's stores, only step 1 of a take does
-abbrev pub takeStores : Index → List Store → ℕ
-takeStores t [] = 0
-takeStores t (a ∷ b) =
-    cond (lowersTail t (a .kind)) (suc (takeStores (tailAfter t (a .kind)) b)) (takeStores (tailAfter t (a .kind)) b)
-
 -- in a chain they are the dips
 pub chain-takeStores : {s bound t c d e u : ℕ} {b : List Store} → Chain s bound t c b d e u → takeStores (idx t) b ≡ d
 chain-takeStores (none h) = refl
-chain-takeStores {t = t} (up v h k) = rw (idx-lt v t, le-ltb v t (omega arith)) (chain-takeStores k)
-chain-takeStores {t = t} (same k) = rw (idx-lt t t, le-ltb t t (omega arith)) (chain-takeStores k)
-chain-takeStores {t = suc t} (down h k) = rw (idx-lt t (suc t), lt-ltb t (suc t) (omega arith)) (ap suc (chain-takeStores k))
-chain-takeStores (slot x low k) = chain-takeStores k
-chain-takeStores (client k) = chain-takeStores k
+chain-takeStores {t = t} (up v h k) = rw (idx-lt v t, le-ltb v t (omega arith)) (zero-add _ ∙ chain-takeStores k)
+chain-takeStores {t = t} (same k) = rw (idx-lt t t, le-ltb t t (omega arith)) (zero-add _ ∙ chain-takeStores k)
+chain-takeStores {t = suc t} (down h k) = rw (idx-lt t (suc t), lt-ltb t (suc t) (omega arith)) (one-add _ ∙ ap suc (chain-takeStores k))
+chain-takeStores (slot x low k) = zero-add _ ∙ chain-takeStores k
+chain-takeStores (client k) = zero-add _ ∙ chain-takeStores k

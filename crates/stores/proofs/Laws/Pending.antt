@@ -17,7 +17,7 @@ use Rattle.stores.specs.Types.{Index, Store, StoreBuffer}
 use Rattle.stores.specs.Index.{indexInRange, slotOf}
 use Rattle.stores.specs.StoreBuffer.{dropOldest, newestTail, oldest, pending, push, slotsAfter, storeInRange, tailAfter, tailStore}
 use Rattle.stores.proofs.Laws.Index.{idx, idx-in-range}
-use Rattle.stores.proofs.Laws.StoreBuffer.{dropOldest-pending, pending-oldest, push-pending, slotsAfter-length, slotsAfter-slotAfter, tailAfter-in-range}
+use Rattle.stores.proofs.Laws.StoreBuffer.{pending-dropped, push-pending, slotsAfter-length, slotsAfter-slotAfter, tailAfter-in-range}
 use Rattle.stores.proofs.Laws.Chain.{Chain, SlotsWithin, down, none, up, chain-land, chain-push, chain-raise, chain-tail, slots-land}
 use Rattle.stores.proofs.Laws.Slots.{slots-leave-one}
 
@@ -220,7 +220,7 @@ module _ {z : Sizes} {g : Memory} {t : Index} {b : StoreBuffer} (v : Pending z g
 
     -- the oldest store of the buffer, and the others
     pub first : pending b ≡ oldest b ∷ pending (dropOldest b)
-    first = pending-oldest b some within-cells ∙ ap (λ l. oldest b ∷ l) (sym (dropOldest-pending b some within-cells))
+    first = pending-dropped b some within-cells
 
     pub drained-fits : dropOldest b .count ≤ z .buffer
     drained-fits = omega (arith, v .fits)

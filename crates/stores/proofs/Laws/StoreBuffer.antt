@@ -1,26 +1,36 @@
 -- Laws of the store buffer: what push and drain do to the pending list, and to what the worker loads. They ask only that the pending
 -- stores lie within the array, and know nothing of the queue's calls.
 use mathlib.Core.Path.{_≡_, refl, ap, sym, _∙_}
-use mathlib.Core.Bool.{Bool, true, false, false≢true, _&&_, _||_}
+use mathlib.Core.Bool.{Bool, true, false, false≢true, cond, _&&_, _||_}
 use mathlib.Core.List.{List, [], _∷_, _++_, foldl, foldl-append}
-use Prim.Native.Nat.{ℕ, _+_, _-_, _≤_, _<_}
+use Prim.Native.Nat.{ℕ, suc, _+_, _-_, _≤_, _<_, zero-le}
+use native.Mathlib.Nat.{add-zero}
 use native.Mathlib.Numerals.{add-one}
 use native.Mathlib.Omega.{arith}
 use lib.Dec.{ltb}
 use lib.ListN.{length, getD, drop, take, length-drop, length-set, length-take}
-use lib.Seq.{take-at, take-suc-set}
+use lib.Seq.{take-at, take-suc, take-suc-set}
 use borrow.Author.Tests.{le-ltb, lt-leb, ltb-false, ltb-true}
 use Rattle.terms.specs.Lists.{all}
 use Rattle.terms.proofs.Laws.Tests.{and-left, and-right, by-test}
-use Rattle.terms.proofs.Laws.Lists.{foldl-more, getD-set, take-first, take-whole}
-use Rattle.stores.specs.Types.{Index, Push, Nothing, One, Store, StoreBuffer, StoreKind, Client, Tail, Slot}
+use Rattle.terms.proofs.Laws.Lists.{&&-true, all-snoc, getD-set, take-first, take-whole}
+use Rattle.stores.specs.Types.{Index, Push, Nothing, One, Scan, Store, StoreBuffer, StoreKind, Client, Tail, Slot}
 use Rattle.stores.specs.Index.{indexInRange, slotOf}
-use Rattle.stores.specs.StoreBuffer.{clientStore, dropOldest, dropOldestOrSame, newestInSlot, newestTail, oldest, pending, push, pushOrSame, pushedIn, pushedOrSame, slotAfter, slotsAfter, storeInRange, tailAfter}
+use Rattle.stores.specs.StoreBuffer.{clientStore, dropOldest, dropOldestOrSame, lowersTail, newestInSlot, newestTail, oldest, pending, push, pushInRange, pushLowersTail, pushOrSame, pushedIn, pushedOrSame, scan, scanned, slotAfter, slotsAfter, storeInRange, tailAfter, takeStores}
 
--- the store that a step makes, if it makes one, has a cell in a buffer of n stores
-abbrev pub pushFits : Push → ℕ → Type 0
-pushFits Nothing n = Unit {0}
-pushFits (One w k) n = n < 64
+-- the store that a step makes, if it makes one, has a place behind n stores, where there are so many
+abbrev pub pushFits : ℕ → Push → ℕ → Type 0
+pushFits places Nothing n = Unit {0}
+pushFits places (One w k) n = n < places
+
+pub fits-more : {places more : ℕ} (p : Push) (n : ℕ) → places ≤ more → pushFits places p n → pushFits more p n
+fits-more Nothing n most fits = tt
+fits-more (One w k) n most fits = omega arith
+
+-- with it there are no more than places
+pub pushed-count : {places : ℕ} (p : Push) (b : StoreBuffer) → b .count ≤ places → pushFits places p (b .count) → pushedIn p b .count ≤ places
+pushed-count Nothing b few fits = few
+pushed-count (One w k) b few fits = omega arith
 
 -- ── The pending list ────────────────────────────────────────────────────────────────────────────────────────────────────────
 
@@ -37,6 +47,10 @@ module _ (b : StoreBuffer) (some : 0 < b .count) (within : b .count ≤ length (
   pub dropOldest-pending : pending (dropOldest b) ≡ drop 1 (pending b)
   dropOldest-pending = take-at (drop 1 (pending b)) _ (b .count - 1) (simp (length-drop, length-take) (omega arith))
 
+  -- so the list is the oldest store and the others
+  pub pending-dropped : pending b ≡ oldest b ∷ pending (dropOldest b)
+  pending-dropped = pending-oldest ∙ ap (λ l. oldest b ∷ l) (sym dropOldest-pending)
+
 -- both where the buffer has a cell for them
 
 pub push-free : (s : Store) (b : StoreBuffer) → b .count < 64 → pushOrSame s b ≡ push s b
@@ -45,7 +59,7 @@ push-free s b free = by-test _ _ (lt-leb 64 (b .count) free)
 pub dropOldest-some : (b : StoreBuffer) → 0 < b .count → b .count ≤ 64 → dropOldestOrSame b ≡ dropOldest b
 dropOldest-some b some fits = rw (le-ltb (b .count) 1 some, le-ltb 64 (b .count) fits)
 
-pub pushed-free : (p : Push) (b : StoreBuffer) → pushFits p (b .count) → pushedOrSame p b ≡ pushedIn p b
+pub pushed-free : (p : Push) (b : StoreBuffer) → pushFits 64 p (b .count) → pushedOrSame p b ≡ pushedIn p b
 pushed-free Nothing b free = refl
 pushed-free (One w k) b free = push-free (record { kind = k }) b free
 
@@ -91,13 +105,13 @@ drops count e = go (ltb count 1) refl
     go false some = (ltb-false count 1 some, ltb-false 64 count (sym (ap (λ t. t || ltb 64 count) some) ∙ e))
 
 -- a turn of a loop that goes from store to store
-pub found-more : {A : Type 0} (f : A → Store → A) (v : A) (stores : List Store) (count : ℕ) (a next : A) (i : ℕ)
-    → length stores ≡ 64 → Found (foldl f v) stores count a i → i < count → i < 64 → next ≡ f a (getD stores i clientStore) → Found (foldl f v) stores count next (i + 1)
-found-more f v stores count a next i long found below inside step = (
-  step ∙ ap (λ u. f u (getD stores i clientStore)) (found .0) ∙ sym (foldl-more f v stores i clientStore (omega arith)),
-  omega arith,
-  omega arith,
-)
+pub found-more : {A : Type 0} (g : List Store → A) (f : A → Store → A) → ((l : List Store) (s : Store) → g (l ++ (s ∷ [])) ≡ f (g l) s)
+    → (stores : List Store) (count : ℕ) (a next : A) (i : ℕ)
+    → length stores ≡ 64 → Found g stores count a i → i < count → i < 64 → next ≡ f a (getD stores i clientStore) → Found g stores count next (i + 1)
+found-more g f grows stores count a next i long found below inside step =
+    let there : i < length stores = omega arith in
+    let more : g (take (i + 1) stores) ≡ f (g (take i stores)) (getD stores i clientStore) = rw (add-one, take-suc stores i clientStore there) (grows (take i stores) (getD stores i clientStore)) in
+    (step ∙ ap (λ u. f u (getD stores i clientStore)) (found .0) ∙ sym more, omega arith, omega arith)
 
 -- ── What the worker loads ───────────────────────────────────────────────────────────────────────────────────────────────────
 
@@ -131,6 +145,61 @@ module _ (b : StoreBuffer) (some : 0 < b .count) (within : b .count ≤ length (
   drain-newestInSlot n k slots there =
       ap (λ v. newestInSlot n k v (dropOldest b)) (slotsAfter-slotAfter n k slots (oldest b .kind) there)
       ∙ dropOldest-foldl (λ u s. slotAfter n k u (s .kind)) (getD slots k 0) b some within
+
+-- ── What one look finds ─────────────────────────────────────────────────────────────────────────────────────────────────────
+
+-- take stores, with one store more behind them
+takeStores-snoc : (t : Index) (l : List Store) (s : Store)
+    → takeStores t (l ++ (s ∷ [])) ≡ cond (lowersTail (foldl (λ u s. tailAfter u (s .kind)) t l) (s .kind)) (takeStores t l + 1) (takeStores t l)
+takeStores-snoc t [] s = add-zero (cond (lowersTail t (s .kind)) 1 0)
+takeStores-snoc t (a ∷ l) s =
+    go (lowersTail t (a .kind)) (lowersTail (foldl (λ u s. tailAfter u (s .kind)) (tailAfter t (a .kind)) l) (s .kind)) _ _ (takeStores-snoc (tailAfter t (a .kind)) l s)
+  where
+    go : (low last : Bool) (m n : ℕ) → m ≡ cond last (n + 1) n → cond low 1 0 + m ≡ cond last (cond low 1 0 + n + 1) (cond low 1 0 + n)
+    go low true m n same = omega arith
+    go low false m n same = omega arith
+
+-- they are no more than there are stores
+pub takeStores-most : (t : Index) (l : List Store) → takeStores t l ≤ length l
+takeStores-most t [] = zero-le
+takeStores-most t (a ∷ l) = go (lowersTail t (a .kind)) (takeStores-most (tailAfter t (a .kind)) l)
+  where
+    go : (low : Bool) {n m : ℕ} → n ≤ m → cond low 1 0 + n ≤ suc m
+    go true few = omega arith
+    go false few = omega arith
+
+-- what is found in a list of stores
+abbrev pub scanOf : Index → List Store → Scan
+scanOf t l = record { ranged = all (λ s. storeInRange (s .kind)) l; tail = foldl (λ u s. tailAfter u (s .kind)) t l; takes = takeStores t l }
+
+-- .. with one store more
+pub scanOf-snoc : (t : Index) (l : List Store) (s : Store) → scanOf t (l ++ (s ∷ [])) ≡ scanned (scanOf t l) (s .kind)
+scanOf-snoc t l s =
+    let ranged = all-snoc (λ s. storeInRange (s .kind)) l s in
+    let tail = foldl-append (λ u s. tailAfter u (s .kind)) t l (s ∷ []) in
+    let takes = takeStores-snoc t l s in
+    λ i. record { ranged = ranged i; tail = tail i; takes = takes i }
+
+-- after the store that an entry makes, if it makes one: it stands behind the others
+
+module _ (t : Index) (b : StoreBuffer) where
+  push-scan : (s : Store) → b .count < length (b .stores) → scan t (push s b) ≡ scanned (scan t b) (s .kind)
+  push-scan s room = ap (scanOf t) (push-pending s b room) ∙ scanOf-snoc t (pending b) s
+
+  module _ (long : length (b .stores) ≡ 64) where
+    pub pushed-ranged : (p : Push) → pushFits 64 p (b .count) → scan t (pushedIn p b) .ranged ≡ (scan t b .ranged && pushInRange p)
+    pushed-ranged Nothing fits = sym (&&-true (scan t b .ranged))
+    pushed-ranged (One w k) fits = ap (λ f. f .ranged) (push-scan (record { kind = k }) (omega arith))
+
+    pub pushed-takes : (p : Push) → pushFits 64 p (b .count)
+        → scan t (pushedIn p b) .takes ≡ cond (pushLowersTail (newestTail t b) p) (scan t b .takes + 1) (scan t b .takes)
+    pushed-takes Nothing fits = refl
+    pushed-takes (One w k) fits = ap (λ f. f .takes) (push-scan (record { kind = k }) (omega arith))
+
+-- after a drain: the oldest is one less, if it lowers memory's tail
+pub drain-takes : (t : Index) (b : StoreBuffer) → 0 < b .count → b .count ≤ length (b .stores)
+    → scan t b .takes ≡ cond (lowersTail t (oldest b .kind)) 1 0 + scan (tailAfter t (oldest b .kind)) (dropOldest b) .takes
+drain-takes t b some within = ap (takeStores t) (pending-dropped b some within)
 
 -- ── In range ────────────────────────────────────────────────────────────────────────────────────────────────────────────────
 

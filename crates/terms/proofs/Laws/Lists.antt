@@ -1,7 +1,7 @@
 -- Laws of tests over a list, and of lists whose elements are all replaced by a function.
 use mathlib.Core.Path.{_≡_, refl, ap, sym, _∙_}
 use mathlib.Core.Bool.{Bool, true, false, cond, _&&_, false≢true}
-use mathlib.Core.List.{List, [], _∷_, _++_, foldl, foldl-append, map}
+use mathlib.Core.List.{List, [], _∷_, _++_, foldl, map}
 use Prim.Native.Nat.{ℕ, zero, suc, _+_, _≤_, _<_}
 use native.Mathlib.Nat.{add-zero, le-of-suc-le-suc, not-suc-le-zero}
 use native.Mathlib.Numerals.{add-one, one-add}
@@ -18,7 +18,7 @@ use Rattle.terms.proofs.Laws.Sums.{range-suc}
 &&-assoc true b c = refl
 &&-assoc false b c = refl
 
-&&-true : (a : Bool) → (a && true) ≡ a
+pub &&-true : (a : Bool) → (a && true) ≡ a
 &&-true true = refl
 &&-true false = refl
 
@@ -41,6 +41,12 @@ module _ {A : Type 0} (f : A → Bool) where
   -- where all elements and the default pass, what stands at any place does
   pub all-getD : (l : List A) (i : ℕ) (d : A) → f d ≡ true → all f l ≡ true → f (getD l i d) ≡ true
   all-getD l i d e p = all-at l (length l + suc i) i d e (ap (all f) (take-all (length l + suc i) l (omega arith)) ∙ p) (omega arith)
+
+  -- of a list whose elements pass, one is replaced: it decides
+  pub all-set : (l : List A) (i : ℕ) (x : A) → i < length l → all f l ≡ true → all f (set l i x) ≡ f x
+  all-set [] i x there p = absurd (not-suc-le-zero there)
+  all-set (y ∷ l) zero x there p = rw (and-right (f y) (all f l) p) (&&-true (f x))
+  all-set (y ∷ l) (suc i) x there p = rw (and-left (f y) (all f l) p) (all-set l i x (le-of-suc-le-suc there) (and-right (f y) (all f l) p))
 
   -- where each element passes a test, all do
   pub all-each : (l : List A) (d : A) → ((i : ℕ) → f (getD l i d) ≡ true) → all f l ≡ true
@@ -79,10 +85,6 @@ module _ (f : ℕ → Bool) where
   pub all-below : (n : ℕ) → ((i : ℕ) → i < n → f i ≡ true) → all f (range n) ≡ true
   all-below zero each = refl
   all-below (suc n) each = rw add-one at (all-next n (all-below n (λ i h. each i (omega arith))) (each n (omega arith)))
-
--- a loop's turn: one element more has been gone through
-pub foldl-more : {A B : Type 0} (f : B → A → B) (v : B) (l : List A) (i : ℕ) (d : A) → i < length l → foldl f v (take (i + 1) l) ≡ f (foldl f v (take i l)) (getD l i d)
-foldl-more f v l i d h = rw (add-one, take-suc l i d) (foldl-append f v (take i l) (getD l i d ∷ []))
 
 -- what is gathered by the places of a list's elements is gathered by the elements
 pub concatMap-places : {A B : Type 0} (f : ℕ → List B) (g : A → List B) (d : A) (l : List A) (k : ℕ)

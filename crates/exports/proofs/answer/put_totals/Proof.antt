@@ -7,11 +7,14 @@ use Rattle.exports.proofs.answer.put_totals.Tie as tie
 
 returns : tie.Need-returns
 returns c =
-    let third = c .before .before in
+    let fourth = c .before .before in
+    let third = fourth .before .before .before .before in
     let second = third .before .before .before .before in
     let first = second .before .before .before .before in
-    let tally = first .before .before .before .args .tally in
-    third .put-word3 .ensures ∙ ap (wordPut 8 (tally .waits)) (second .put-word2 .ensures ∙ ap (wordPut 4 (tally .aborts)) (first .put-word .ensures))
+    let t = first .before .before .before .args .summary in
+    fourth .put-word4 .ensures
+    ∙ ap (wordPut 12 (t .hidden))
+    (third .put-word3 .ensures ∙ ap (wordPut 8 (t .tally .waits)) (second .put-word2 .ensures ∙ ap (wordPut 4 (t .tally .aborts)) (first .put-word .ensures)))
 
 pub put-totals-spec : {M : Type 1} → statement M
-put-totals-spec = tie.close (tie.spec (λ c κs. search needs) (λ c κs. search needs) (λ c κs. search needs) (λ c. search needs) returns)
+put-totals-spec = tie.close (tie.spec (λ c κs. search needs) (λ c κs. search needs) (λ c κs. search needs) (λ c κs. search needs) (λ c. search needs) returns)

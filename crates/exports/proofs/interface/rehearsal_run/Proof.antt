@@ -14,7 +14,7 @@ use Rattle.exports.proofs.interface.rehearsal_run.Tie as tie
 returns : tie.Need-returns
 returns c =
     let a = c .before .before .before .before .before .before .before .args in
-    let few = lt-ltb (length (a .totals .now)) 12 (c .before .before .before .if1 .taken) in (
+    let few = lt-ltb (length (a .totals .now)) 16 (c .before .before .before .if1 .taken) in (
       c .answer-of .ensures ∙ ap refusalAnswer (c .before .refusal-of .ensures ∙ ap refusalOf (c .before .before .read .ensures .0)) ∙ sym (ap runningAnswer (by-test _ _ few)),
       (sym (by-test _ _ few), sym (ap (λ one. totalsAfter one (a .totals .now)) (by-test _ _ few))),
     )
@@ -25,7 +25,7 @@ ran-into : (c : tie.After-run) {answer : Running} → c .run .result ≡ answer
     (runInto (a .file .now) (length (a .trace .now)) (a .totals .now) ≡ answer) × (traceInto (a .file .now) (a .trace .now) (a .totals .now) ≡ traceAfter (a .file .now) (a .trace .now))
 ran-into c told =
     let a = c .before .before .before .before .before .before .args in
-    let enough = le-ltb (length (a .totals .now)) 12 (c .before .before .if1 .left) in
+    let enough = le-ltb (length (a .totals .now)) 16 (c .before .before .if1 .left) in
     (by-test _ _ enough ∙ known (c .run .ensures .0) told, by-test _ _ enough)
 
 returns-2 : tie.Need-returns-2

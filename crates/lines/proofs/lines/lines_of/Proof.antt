@@ -10,7 +10,7 @@ use Rattle.lines.proofs.lines.lines_of.Tie as tie
 returns : tie.Need-returns
 returns c =
     let put = c .before .put-lines in
-    ((put .ensures .0 .0, omega (arith, put .ensures .0 .1, put .kept .0 ∙ length-replicate {A = ℕ} 135293 0)), put .ensures .1)
+    ((put .ensures .0 .0, omega (arith, put .ensures .0 .1, put .kept .0 ∙ length-replicate {A = ℕ} 135311 0)), put .ensures .1)
 
 pub lines-of-spec : {M : Type 1} → statement M
 lines-of-spec = tie.close (tie.spec (λ c. search needs) (λ c κs. search needs) returns)

@@ -9,7 +9,7 @@ use Rattle.terms.proofs.Laws.Tests.{known}
 use Rattle.number.specs.Number.{overwritten}
 use Rattle.schedule.specs.Format.{wordsIn}
 use Rattle.schedule.specs.Reader.{refusalOf}
-use Rattle.schedule.specs.Run.{outcomesFrom}
+use Rattle.schedule.specs.Run.{outcomesFrom, summaryFrom}
 use Rattle.schedule.proofs.Laws.Bytes.{each-below}
 use Rattle.schedule.proofs.Laws.Run.{parts-obeyed}
 use Rattle.lines.specs.Lines.{linesFor, refusalLine, runLines}
@@ -55,9 +55,12 @@ returns-2 c =
     let file = a .file .now in
     let s = opened .reading .given .0 .0 in
     let told = known (asked .read .ensures .0) (opened .reading .given .1) in
+    let parts = parts-obeyed file s (opened .reading .given .0 .1 .0) told in
     let lines =
-    (λ i. runLines s (outcomesFrom s (cut .before .kind-part .ensures .0 i) (wordsIn (cut .operand-part .ensures .0 i))))
-    ∙ ap (runLines s) (parts-obeyed file s (opened .reading .given .0 .1 .0) told .outcomes)
+    (λ i.
+    runLines s (outcomesFrom s (cut .before .kind-part .ensures .0 i) (wordsIn (cut .operand-part .ensures .0 i)))
+    (summaryFrom s (cut .before .kind-part .ensures .0 i) (wordsIn (cut .operand-part .ensures .0 i))))
+    ∙ (λ i. runLines s (parts .outcomes i) (parts .summary i))
     ∙ sym (ap (linesFor file) told) in
     ((put .put-run .ensures .0 .0 ∙ ap length lines, omega (arith, put .put-run .ensures .0 .1)), put .put-run .ensures .1 ∙ ap (λ l. overwritten 0 l (a .text .now)) lines)
 

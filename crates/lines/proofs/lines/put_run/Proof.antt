@@ -1,4 +1,4 @@
--- `put_run` meets its contract: the entries are obeyed, and the lines follow each other: sizes, entries, totals.
+-- `put_run` meets its contract: the entries are obeyed, and the lines follow each other: sizes, entries, what is told of all of them.
 use mathlib.Core.Path.{ap, subst, sym, _∙_}
 use mathlib.Core.List.{_++_}
 use Prim.Native.Nat.{ℕ, _+_, _*_, _≤_}
@@ -11,7 +11,7 @@ use Rattle.schedule.specs.Run.{outcomesFrom}
 use Rattle.schedule.proofs.Laws.Bytes.{each-below}
 use Rattle.schedule.proofs.Laws.Run.{fits-room, length-outcomesFrom, longest-fits, longest-put, parts-values-fit}
 use Rattle.lines.specs.FromTrace.{linesFromTrace}
-use Rattle.lines.specs.Lines.{sizesLine, totalsLine}
+use Rattle.lines.specs.Lines.{lastLine, sizesLine}
 use Rattle.lines.proofs.Laws.Lines.{trace-lines}
 use Rattle.lines.proofs.Laws.Text.{Put, put-as, put-more}
 use Rattle.lines.proofs.lines.put_run.Statement.{statement}
@@ -28,8 +28,8 @@ put-entries-requires c κs =
       start .pre .1,
     )
 
-put-totals-requires : tie.Need-put-totals-requires
-put-totals-requires c κs =
+put-summary-requires : tie.Need-put-summary-requires
+put-summary-requires c κs =
     let entries = c .before .before .before in
     let put = entries .before .before .before .before .before in
     let start = put .before .before .before .before .before .before .before .before in
@@ -37,8 +37,8 @@ put-totals-requires c κs =
 
 returns : tie.Need-returns
 returns c =
-    let totals = c .before .before in
-    let entries = totals .before .before .before .before in
+    let last = c .before .before in
+    let entries = last .before .before .before .before in
     let put = entries .before .before .before .before .before in
     let ran = put .before .before .before in
     let known = ran .before .before in
@@ -52,9 +52,9 @@ returns c =
     let lines = ap (linesFromTrace n) trace ∙ trace-lines os (replicate 20484 0) n (length-outcomesFrom (a .sizes) (a .kinds .now) (wordsIn (a .operands .now))) (parts-values-fit (a .sizes) (a .kinds .now) (a .operands .now) bytes) in
     let one : Put 0 (sizesLine (a .sizes)) text _ _ = record { there = put .put-sizes .ensures .1; ends = put .put-sizes .ensures .0 .0 ∙ sym (zero-add _) } in
     let two = put-more 0 (sizesLine (a .sizes)) (linesFromTrace n (ran .obey-entries .last .1 .1 .1 .0)) text (omega arith) one (entries .put-entries .ensures .0 .0) (entries .put-entries .ensures .1) in
-    let three = put-more 0 (sizesLine (a .sizes) ++ linesFromTrace n (ran .obey-entries .last .1 .1 .1 .0)) (totalsLine (ran .obey-entries .result)) text (omega arith) two (totals .put-totals .ensures .0 .0) (totals .put-totals .ensures .1) in
-    let all = put-as 0 text (λ i. sizesLine (a .sizes) ++ lines i ++ totalsLine (ran .obey-entries .ensures .0 i)) three in
-    ((all .ends ∙ zero-add _, omega (arith, totals .put-totals .ensures .0 .1, entries .put-entries .ensures .0 .1, put .put-sizes .ensures .0 .1, start .pre)), all .there)
+    let three = put-more 0 (sizesLine (a .sizes) ++ linesFromTrace n (ran .obey-entries .last .1 .1 .1 .0)) (lastLine (ran .obey-entries .result)) text (omega arith) two (last .put-summary .ensures .0 .0) (last .put-summary .ensures .1) in
+    let all = put-as 0 text (λ i. sizesLine (a .sizes) ++ lines i ++ lastLine (ran .obey-entries .ensures .0 i)) three in
+    ((all .ends ∙ zero-add _, omega (arith, last .put-summary .ensures .0 .1, entries .put-entries .ensures .0 .1, put .put-sizes .ensures .0 .1, start .pre)), all .there)
 
 pub put-run-spec : {M : Type 1} → statement M
 put-run-spec =
@@ -65,6 +65,6 @@ put-run-spec =
     (λ c κs. search needs)
     (λ c. search needs)
     put-entries-requires
-    put-totals-requires
+    put-summary-requires
     (λ c. search needs)
     returns)

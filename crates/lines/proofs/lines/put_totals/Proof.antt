@@ -1,5 +1,5 @@
 -- `put_totals` meets its contract: each word and each number stands right behind what is before it.
-use mathlib.Core.List.{_++_}
+use mathlib.Core.List.{[], _∷_, _++_}
 use native.Mathlib.Omega.{arith}
 use borrow.Author.Needs.{needs}
 use Rattle.lines.specs.Text.{ascii, decimal}
@@ -25,8 +25,8 @@ returns c =
     let three = put-more (a .at) (ascii "given " ++ (given ++ ascii " ")) (ascii "aborts ") text (omega arith) two (third .put-bytes2 .ensures .0) (third .put-bytes2 .ensures .1) in
     let four = put-more (a .at) (ascii "given " ++ (given ++ ascii " ") ++ ascii "aborts ") (aborts ++ ascii " ") text (omega arith) three (fourth .put-number2 .ensures .0 .0) (fourth .put-number2 .ensures .1) in
     let five = put-more (a .at) (ascii "given " ++ (given ++ ascii " ") ++ ascii "aborts " ++ (aborts ++ ascii " ")) (ascii "waits ") text (omega arith) four (fifth .put-bytes3 .ensures .0) (fifth .put-bytes3 .ensures .1) in
-    let six = put-more (a .at) (ascii "given " ++ (given ++ ascii " ") ++ ascii "aborts " ++ (aborts ++ ascii " ") ++ ascii "waits ") (waits ++ ascii "\n") text (omega arith) five (sixth .put-number3 .ensures .0 .0) (sixth .put-number3 .ensures .1) in
-    let all = put-as (a .at) text (six-words (ascii "given") given (ascii "aborts") aborts (ascii "waits") waits) six in
+    let six = put-more (a .at) (ascii "given " ++ (given ++ ascii " ") ++ ascii "aborts " ++ (aborts ++ ascii " ") ++ ascii "waits ") (waits ++ (a .behind ∷ [])) text (omega arith) five (sixth .put-number3 .ensures .0 .0) (sixth .put-number3 .ensures .1) in
+    let all = put-as (a .at) text (six-words (a .behind ∷ []) (ascii "given") given (ascii "aborts") aborts (ascii "waits") waits) six in
     ((all .ends, omega arith), all .there)
 
 pub put-totals-spec : {M : Type 1} → statement M

@@ -1,4 +1,4 @@
--- `obey_from` meets its contract. Its loop keeps that machine, totals and trace buffer are those after the entries before `at`.
+-- `obey_from` meets its contract. Its loop keeps that machine, totals, largest number and trace buffer are those after the entries before `at`.
 use mathlib.Core.Path.{_≡_, refl, _∙_}
 use Prim.Native.Nat.{_-_, _≤_}
 use native.Mathlib.Omega.{arith}
@@ -10,11 +10,11 @@ use Rattle.schedule.proofs.runner.obey_from.Statement.{statement}
 use Rattle.schedule.proofs.runner.obey_from.Tie as tie
 
 abbrev Inv-loop : tie.InvT-loop
-Inv-loop machine₀ kinds operands trace₀ entries sizes tally₀ at₀ machine trace tally at =
-    Obeyed machine₀ (machine₀ .sizes) kinds (wordsIn operands) trace₀ trace machine tally at × (at ≤ length kinds) × (length trace ≡ length trace₀)
+Inv-loop machine₀ kinds operands trace₀ entries sizes tally₀ hidden₀ at₀ machine trace tally hidden at =
+    Obeyed machine₀ (machine₀ .sizes) kinds (wordsIn operands) trace₀ trace machine tally hidden at × (at ≤ length kinds) × (length trace ≡ length trace₀)
 
 abbrev μ-loop : tie.MeasureT-loop
-μ-loop machine₀ kinds operands trace₀ entries sizes tally₀ at₀ machine trace tally at = length kinds - at
+μ-loop machine₀ kinds operands trace₀ entries sizes tally₀ hidden₀ at₀ machine trace tally hidden at = length kinds - at
 
 loop-holds : tie.Need-loop-holds Inv-loop μ-loop
 loop-holds c =
@@ -23,7 +23,7 @@ loop-holds c =
 
 add-at : tie.Need-add-at Inv-loop μ-loop
 add-at c =
-    let test = c .before .before .before .before .before .before .before .before in
+    let test = c .before .before .before .before .before .before .before .before .before in
     let start = test .before .before .before .before .before .before .before in
     omega (arith, test .loop-test .taken, start .good)
 
@@ -31,14 +31,16 @@ loop-again : tie.Need-loop-again Inv-loop μ-loop
 loop-again c =
     let put = c .before .before in
     let count = put .before .before in
-    let obey = count .before .before in
+    let compare = count .before .before in
+    let obey = compare .before in
     let asked = obey .before in
     let turn = asked .before .before in
     let a = turn .before .before .before .before .before .before .args in (
       obeyed-more (a .machine) (a .machine .sizes) (a .kinds .now) (wordsIn (a .operands .now)) (a .trace .now)
-          _ _ _ (turn .loop .at) (asked .before .loop-test .taken) (turn .loop .inv .2) (turn .loop .inv .0)
+          _ _ _ _ (turn .loop .at) (asked .before .loop-test .taken) (turn .loop .inv .2) (turn .loop .inv .0)
           _ (asked .entry-at .ensures)
           _ (obey .obey .ensures)
+          _ (compare .larger .ensures)
           _ (count .counted .ensures)
           _ (put .put-outcome .ensures),
       omega arith,
@@ -53,7 +55,7 @@ returns c =
     let turn = c .before .before .before .before .before in
     let a = turn .before .before .before .before .before .before .args in
     let end : turn .loop .at ≡ length (a .kinds .now) = omega (arith, turn .loop .inv .1, c .before .before .before .before .loop-test .left) in
-    let all = obeyed-all (a .machine) (a .machine .sizes) (a .kinds .now) (wordsIn (a .operands .now)) (a .trace .now) _ _ _ (turn .loop .at) end (turn .loop .inv .2) (turn .loop .inv .0) in
+    let all = obeyed-all (a .machine) (a .machine .sizes) (a .kinds .now) (wordsIn (a .operands .now)) (a .trace .now) _ _ _ _ (turn .loop .at) end (turn .loop .inv .2) (turn .loop .inv .0) in
     (all .0, c .before .before .put-count .ensures ∙ all .1)
 
 pub obey-from-spec : {M : Type 1} → statement M
@@ -64,6 +66,7 @@ obey-from-spec =
     μ-loop
     (λ c κs. search needs)
     loop-holds
+    (λ c κs. search needs)
     (λ c κs. search needs)
     (λ c κs. search needs)
     (λ c κs. search needs)

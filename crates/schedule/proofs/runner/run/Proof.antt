@@ -6,12 +6,11 @@ use lib.ListN.{length}
 use Rattle.terms.proofs.Laws.Tests.{denied, granted, known}
 use Rattle.schedule.specs.Types.{Ran}
 use Rattle.schedule.specs.Format.{wordsIn}
-use Rattle.schedule.specs.Totals.{tallyOf}
 use Rattle.schedule.specs.declared.runner.Running.the-variants as running
 use Rattle.schedule.specs.Reader.{refusalOf}
-use Rattle.schedule.specs.Run.{outcomesFrom, outcomesIn, traceIf, tracePut}
+use Rattle.schedule.specs.Run.{outcomesFrom, outcomesIn, summaryFrom, traceIf, tracePut}
 use Rattle.schedule.specs.Trace.{traceFits, traceOf}
-use Rattle.schedule.proofs.Demand3.{run-promises}
+use Rattle.schedule.proofs.Promises.{run-promises}
 use Rattle.schedule.proofs.Laws.Bytes.{each-below}
 use Rattle.schedule.proofs.Laws.Run.{fits-not, fits-room, outcomes-counted, parts-obeyed, run-refused, run-without-room, run-with-room, trace-put}
 use Rattle.schedule.proofs.runner.run.Statement.{statement}
@@ -54,12 +53,15 @@ returns-3 c =
     let fits = granted (tested .trace-fits .ensures) (cut .before .before .if1 .left) in
     let parts = parts-obeyed file _ _ accepted in
     let went = run-with-room file (length (a .trace .now)) _ _ accepted (fits-room _ (length (a .trace .now)) fits) in
+    let summary =
+    (λ i. summaryFrom (opened .reading .given .0 .0) (cut .before .kind-part .ensures .0 i) (wordsIn (cut .operand-part .ensures .0 i)))
+    ∙ parts .summary in
     let outcomes =
     (λ i. outcomesFrom (opened .reading .given .0 .0) (cut .before .kind-part .ensures .0 i) (wordsIn (cut .operand-part .ensures .0 i)))
     ∙ parts .outcomes in
     let as-many = ap (λ n. traceFits n (length (a .trace .now))) (outcomes-counted file _ _ accepted) ∙ fits in
     run-promises file (a .trace .now) bytes _ _
-    (ap Ran (ran .obey-entries .ensures .0 ∙ ap tallyOf outcomes) ∙ sym went)
+    (ap Ran (ran .obey-entries .ensures .0 ∙ summary) ∙ sym went)
     (ran .obey-entries .ensures .1
     ∙ ap (λ os. tracePut os (a .trace .now)) outcomes
     ∙ trace-put (outcomesIn file) (a .trace .now) as-many

@@ -3,8 +3,11 @@ use borrow.Author.Needs.{needs}
 use Rattle.machine.proofs.machine.Machine.worker_view.Statement.{statement}
 use Rattle.machine.proofs.machine.Machine.worker_view.Tie as tie
 
+worker-loads-requires : tie.Need-worker-loads-requires
+worker-loads-requires c κs = c .before .before .before .before .before .before .before .pre .0
+
 returns : tie.Need-returns
-returns c = simp (c .worker-loads .ensures, c .before .loads .ensures, c .before .before .before .before .before .worker-tail .ensures)
+returns c = simp (c .worker-loads .ensures, c .before .loads .ensures, c .before .before .before .before .before .before .before .before .pre .1)
 
 pub worker-view-spec : {M : Type 1} → statement M
-worker-view-spec = tie.close (tie.spec (λ c κs. search needs) (λ c. search needs) (λ c κs. search needs) (λ c κs. search needs) returns)
+worker-view-spec = tie.close (tie.spec (λ c. search needs) (λ c κs. search needs) worker-loads-requires returns)

@@ -1,11 +1,12 @@
 -- `StoreBuffer::newest_in_slot` meets its contract. The loop's invariant: the newest value so far is that of the first i stores, all of them
 -- pending. The measure is how many are left.
 use mathlib.Core.Path.{_≡_, refl}
-use mathlib.Core.List.{foldl}
-use Prim.Native.Nat.{_-_, _<_, zero-le}
+use mathlib.Core.List.{[], _∷_, foldl, foldl-append}
+use Prim.Native.Nat.{ℕ, _-_, _<_, zero-le}
 use native.Mathlib.Omega.{arith}
 use lib.ListN.{length, length-map}
 use borrow.Author.Needs.{needs}
+use Rattle.stores.specs.Types.{Store}
 use Rattle.stores.specs.StoreBuffer.{slotAfter}
 use Rattle.stores.proofs.Laws.StoreBuffer.{Found, found-all, found-more, goes-on}
 use Rattle.stores.proofs.store_buffer.StoreBuffer.newest_in_slot.Statement.{statement}
@@ -28,7 +29,8 @@ loop-again c =
     let start = c .before .before .before .before .before in
     let turn = c .before .before .before .loop in
     let below = inside (c .before .before) in
-    found-more (λ u s. slotAfter (start .args .slots) (start .args .slot) u (s .kind)) (start .args .value) (start .args .self .stores) (start .args .self .count) (turn .newest) (c .slot-after .result) (turn .i) (long start) (turn .inv) (below .0) (below .1) (c .slot-after .ensures)
+    let sees : ℕ → Store → ℕ = λ u s. slotAfter (start .args .slots) (start .args .slot) u (s .kind) in
+    found-more (foldl sees (start .args .value)) sees (λ l s. foldl-append sees (start .args .value) l (s ∷ [])) (start .args .self .stores) (start .args .self .count) (turn .newest) (c .slot-after .result) (turn .i) (long start) (turn .inv) (below .0) (below .1) (c .slot-after .ensures)
 
 returns : tie.Need-returns Inv-loop μ-loop
 returns c =
