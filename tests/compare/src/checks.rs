@@ -41,15 +41,25 @@ pub type Verdict = Result<(), Disagreement>;
 pub struct Ran {
     pub outcomes: Vec<u8>,
     pub values: Vec<u32>,
+    /// Given, aborts, waits and hidden.
+    totals: Vec<u32>,
 }
 
 impl Ran {
-    fn of(trace: &[u8], entries: usize) -> Self {
+    fn of(trace: &[u8], totals: &[u8], entries: usize) -> Self {
         let (outcomes, values) = trace[4..trace_room(entries)].split_at(entries);
+        let numbers = |bytes: &[u8]| bytes.chunks_exact(4).map(number_at).collect();
         Ran {
             outcomes: outcomes.to_vec(),
-            values: values.chunks_exact(4).map(number_at).collect(),
+            values: numbers(values),
+            totals: numbers(totals),
         }
+    }
+
+    /// The most takes that were hidden after any entry: their stores of the
+    /// tail, by which they begin, were pending.
+    pub fn hidden(&self) -> u32 {
+        self.totals[3]
     }
 
     fn count(&self, wanted: u8) -> u32 {
@@ -84,9 +94,9 @@ impl<'a> Case<'a> {
         let given = sizes.content();
         self.hold("sizes as written", &self.file[..SIZES_ROOM], given)?;
         let entries = read.low as usize;
-        let ran = self.run(entries, tally)?;
-        self.short_run(entries, tally)?;
         let draft = Draft::of_accepted(self.file);
+        let ran = self.run(entries, &draft, tally)?;
+        self.short_run(entries, tally)?;
         self.round_trip(&draft, tally)?;
         sheets::accepted(self, &draft, &ran, tally)?;
         Ok(Ok(ran))
@@ -123,31 +133,33 @@ impl<'a> Case<'a> {
         self.hold("a refused run leaves its memory", true, untouched)
     }
 
-    fn run(&self, entries: usize, tally: &mut Tally) -> Result<Ran, Disagreement> {
+    fn run(&self, entries: usize, draft: &Draft, tally: &mut Tally) -> Result<Ran, Disagreement> {
         let needed = trace_room(entries);
         // Half of the cases lend exactly what is needed, the rest some more.
         let spare = (self.pattern % 32).saturating_sub(16) as usize;
         let (answer, [trace, totals]) = self.raw_run([needed + spare, TOTALS_ROOM])?;
         self.hold("an accepted run", Answer::value(0), answer)?;
         self.hold("trace beyond", true, trace.untouched_beyond(needed))?;
-        let ran = Ran::of(trace.content(), entries);
+        let ran = Ran::of(trace.content(), totals.content(), entries);
         let head = number_at(&trace.content()[..4]);
         self.hold("entries in the trace", entries, head as usize)?;
-        self.sound_run(&ran, totals.content())?;
-        tally.run(&ran);
+        self.sound_run(draft, &ran)?;
+        tally.run(draft, &ran);
         Ok(ran)
     }
 
     /// What any run must be, whoever made it.
-    fn sound_run(&self, ran: &Ran, totals: &[u8]) -> Verdict {
+    fn sound_run(&self, draft: &Draft, ran: &Ran) -> Verdict {
         let known = |outcome: &u8| OUTCOMES.iter().any(|row| row.0 == *outcome);
         self.hold("only known outcomes", true, ran.outcomes.iter().all(known))?;
         let mut pairs = ran.outcomes.iter().zip(&ran.values);
         let valued = pairs.all(|(&outcome, &value)| outcome == TASK || value == 0);
         self.hold("only TASK has a value", true, valued)?;
         let counted = [TASK, ABORT, WAIT].map(|outcome| ran.count(outcome));
-        let given: Vec<u32> = totals.chunks_exact(4).map(number_at).collect();
-        self.hold("totals", &counted[..], &given)
+        self.hold("totals", &counted[..], &ran.totals[..3])?;
+        // Whichever margin the file sets.
+        let beyond = ran.hidden().saturating_sub(draft.needed_margin());
+        self.hold("takes hidden beyond the needed margin", 0, beyond)
     }
 
     /// A run whose trace is lent one byte less than it needs.

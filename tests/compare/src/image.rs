@@ -47,6 +47,9 @@ const fn hand(least: Option<i64>, task: bool) -> Hand {
     Hand { least, task }
 }
 
+/// A tail store's kind.
+const TAIL_STORE: i64 = 1;
+
 /// By kind: a client store, a tail store, a slot store.
 pub const STORE_HANDS: [Hand; 3] = [NOTHING, INDEX, SLOT_STORE];
 
@@ -90,14 +93,24 @@ impl Image {
         image.set(place, numbers);
         image
     }
+
+    /// The stores that are pending, as far as there are places for them.
+    fn pending(&self) -> usize {
+        self.at(PENDING).clamp(0, MOST_STORES as i64) as usize
+    }
+
+    /// How many of them store a tail.
+    pub fn pending_tails(&self) -> usize {
+        let kinds = (0..self.pending()).map(|which| self.at(STORES + 3 * which));
+        kinds.filter(|&kind| kind == TAIL_STORE).count()
+    }
 }
 
 /// All that is in use and not 0, the slots left out.
 impl fmt::Display for Image {
     fn fmt(&self, f: &mut fmt::Formatter) -> fmt::Result {
-        let pending = self.at(PENDING).clamp(0, MOST_STORES as i64) as usize;
         let in_use = (0..SLOTS)
-            .chain(HEAD..STORES + 3 * pending)
+            .chain(HEAD..STORES + 3 * self.pending())
             .chain(SPACING_COUNT..NUMBERS);
         let told = in_use.filter(|&place| self.at(place) != 0);
         let told = told.map(|place| format!("{} {}", meaning(place), self.at(place)));

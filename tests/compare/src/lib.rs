@@ -14,6 +14,7 @@ pub mod edges;
 pub mod faults;
 pub mod ffi;
 pub mod generate;
+pub mod hidden;
 pub mod image;
 pub mod lent;
 pub mod likeness;

@@ -7,7 +7,8 @@ use crate::image::{
     WORKER_HANDS,
 };
 use crate::random::Random;
-use crate::schedule::{BUFFER, RANGES, SPACING};
+use crate::schedule::{Draft, BUFFER, RANGES, SPACING};
+use crate::script::Script;
 use crate::sides::from_file_order;
 
 /// A machine in the middle of a random schedule. The reference leads there; an
@@ -15,10 +16,25 @@ use crate::sides::from_file_order;
 pub fn reached(random: &mut Random) -> Image {
     let most = random.pick(&[20, 60, 200]);
     let length = random.place(most + 1);
-    let draft = generate::schedule(length, random);
+    led_to(&generate::schedule(length, random))
+}
+
+/// A machine with two takes hidden, a client store between them and places left
+/// in the list. Nobody has a call, so that any call and any step can be tried.
+pub fn hiding() -> Image {
+    let mut script = Script::new([8, 8, 1, 2, 1, 0]);
+    for task in 1..=3 {
+        script = script.put(task).drains(2);
+    }
+    let taken = script.take(3).client_stores(1).take(2);
+    led_to(&taken.draft)
+}
+
+/// The machine at the end of a sound schedule.
+fn led_to(draft: &Draft) -> Image {
     let mut image = reference::fresh_image(&from_file_order(&draft.sizes));
-    for (kind, operand) in draft.entries {
-        image = reference::step_of_image(&image, [0; 3], kind, operand).3;
+    for &(kind, operand) in &draft.entries {
+        image = reference::step_of_image(&image, [0; 3], kind, operand).4;
     }
     Image::of(&image)
 }

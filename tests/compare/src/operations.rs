@@ -17,8 +17,9 @@ const IMAGE: usize = 8 * NUMBERS;
 /// The longest request that the program takes.
 pub const LONGEST: usize = 65_536;
 
-/// The outcome's number and value, the totals and the machine after a step.
-pub type Stepped = (u8, u32, [u32; 3], Vec<u8>);
+/// The outcome's number and value, the totals, the takes hidden and the machine
+/// after a step.
+pub type Stepped = (u8, u32, [u32; 3], u32, Vec<u8>);
 
 /// All functions fail only where the program has ended.
 pub struct Operations {
@@ -52,10 +53,11 @@ impl Operations {
         assert_eq!(image.len(), IMAGE);
         let totals = totals.map(u32::to_le_bytes).concat();
         let response = self.ask(b'o', &[image, &totals, &[kind], &operand.to_le_bytes()])?;
-        assert_eq!(response.len(), 17 + IMAGE);
+        assert_eq!(response.len(), 21 + IMAGE);
         let word = |at: usize| number_at(&response[at..at + 4]);
-        let after = response[17..].to_vec();
-        Ok((response[0], word(1), [word(5), word(9), word(13)], after))
+        let totals = [word(5), word(9), word(13)];
+        let after = response[21..].to_vec();
+        Ok((response[0], word(1), totals, word(17), after))
     }
 
     /// The entry to obey at a place of two parallel arrays, its kind and its operand.

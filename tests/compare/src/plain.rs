@@ -32,7 +32,7 @@ pub fn examine(file: &[u8], ran: &Ran, tally: &mut Tally) -> Verdict {
 fn count_enough(draft: &Draft, ran: &Ran, tally: &mut Tally) {
     let mut steps = draft.entries.iter().zip(&ran.outcomes);
     let stolen = steps.any(|(entry, outcome)| entry.0 == THIEF_STEP && *outcome == TASK);
-    for (count, seen) in [
+    tally.count_seen([
         (Count::JudgedEnough, true),
         (Count::EnoughSeveralThieves, draft.sizes[THIEVES] > 1),
         (Count::EnoughStolen, stolen),
@@ -45,11 +45,7 @@ fn count_enough(draft: &Draft, ran: &Ran, tally: &mut Tally) {
             Count::EnoughNearLastIndex,
             draft.sizes[START] > LAST_INDEX - 300,
         ),
-    ] {
-        if seen {
-            tally.count(count);
-        }
-    }
+    ]);
 }
 
 /// Whether a take began that the spacing rule would have held back, had no put
@@ -120,7 +116,8 @@ pub fn hold_short(sizes: &[u32; 6], tally: &mut Tally) -> Verdict {
     clean(&file, &judged(&file))
 }
 
-/// Puts of 1 to margin + 1 in memory, all taken with no store drained.
+/// Puts of 1 to margin + 1 in memory, all taken with no store drained, so that
+/// all takes are hidden at last.
 fn taken_unseen(sizes: &[u32; 6]) -> Script {
     let (spacing, margin) = (sizes[SPACING], sizes[MARGIN]);
     let mut script = Script::new(*sizes);
@@ -130,5 +127,5 @@ fn taken_unseen(sizes: &[u32; 6]) -> Script {
     for task in (2..=margin + 1).rev() {
         script = script.take(task).client_stores(spacing);
     }
-    script.take(1)
+    script.take(1).hiding(margin + 1)
 }

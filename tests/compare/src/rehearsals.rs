@@ -58,7 +58,7 @@ pub const EXAMPLE_LINES: &str = "\
 3 7 0
 4 0 0
 5 16 0
-given 0 aborts 0 waits 1
+given 0 aborts 0 waits 1 hidden 0
 ";
 
 /// M1: buffer, spacing and the needed margin.
@@ -128,13 +128,14 @@ pub fn example() -> Script {
         .answers(WAIT, 0)
         .drains(1)
         .answers(STORED, 0)
+        .hiding(0)
 }
 
 /// M2 and M3: two tasks in memory, both taken with the stores still pending.
 fn two_taken_unseen(margin: u32) -> Script {
     let stored = Script::new([4, 2, 0, margin, 1, 0]);
     let stored = stored.put(11).drains(2).put(12).drains(2);
-    stored.take(12).take(11)
+    stored.take(12).take(11).hiding(2)
 }
 
 /// The head is 0 again: with a head of 1 the last take would go the long way.
@@ -163,15 +164,16 @@ fn m5_before_its_load() -> Script {
 }
 
 /// Here the thief has seen one task and must abort, so two tasks stand in two
-/// slots afterwards, both whole.
+/// slots afterwards, both whole. They are taken, but never hidden at once.
 fn m5_after_its_load() -> Script {
     let aborted = m5(4).robs(0, 1).gets(THIEF_STEP, 0, ABORT, 0);
-    aborted.take(22).drains(1).take(21)
+    aborted.take(22).drains(1).take(21).hiding(1)
 }
 
 /// The put and take afterwards show that the tail is 0 again.
 fn m6() -> Script {
-    start_at(0).take_empty().put(5).drains(2).take(5)
+    let emptied = start_at(0).take_empty();
+    emptied.put(5).drains(2).take(5).hiding(1)
 }
 
 fn start_at(start: u32) -> Script {
@@ -207,7 +209,7 @@ fn m9() -> Script {
 fn both_taken(margin: u32) -> Script {
     let stored = Script::new([8, 4, 1, margin, 1, 0]);
     let stored = stored.put(101).drains(2).put(102).drains(2);
-    stored.take(102).client_stores(1).take(101)
+    stored.take(102).client_stores(1).take(101).hiding(2)
 }
 
 /// Thief 0 has the lock; thief 1 and the worker, who is after the last block,
@@ -252,13 +254,14 @@ fn end() -> Script {
 }
 
 /// The client stores nothing: the two stores of one put are not enough for a
-/// spacing of 4, those of two puts are.
+/// spacing of 4, those of two puts are. Both takes are hidden at last; what the
+/// puts store between them raises the tail and hides nothing.
 fn puts_between() -> Script {
     let stored = Script::new([8, 8, 4, 2, 1, 0]);
     let stored = stored.put(501).drains(2).put(502).drains(2);
     let early = stored.take(502).gets(BEGIN_TAKE, 0, EARLY, 0);
     let early = early.put(503).gets(BEGIN_TAKE, 0, EARLY, 0);
-    early.put(504).take(504)
+    early.put(504).take(504).hiding(2)
 }
 
 /// The shares of the design's blocks, from 1 to 6.

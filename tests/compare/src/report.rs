@@ -5,7 +5,7 @@ use std::fs;
 use std::path::PathBuf;
 
 use crate::checks::Disagreement;
-use crate::tally::{Count, Tally, MACHINES, OUTCOMES, REFUSALS, SHEETS};
+use crate::tally::{Count, Tally, HANDED_ON, HIDDEN, MACHINES, OUTCOMES, REFUSALS, SHEETS};
 
 /// Files up to this length are printed whole.
 const PRINTED: usize = 512;
@@ -51,6 +51,7 @@ pub fn print_table(parts: &[Part], steps: &Tally, random: &Tally) {
     }
     println!("single steps");
     rows(&MACHINES, steps);
+    rows(&HANDED_ON, steps);
     outcomes(steps);
     println!("random cases, by kind");
     rows(&KINDS, random);
@@ -60,6 +61,8 @@ pub fn print_table(parts: &[Part], steps: &Tally, random: &Tally) {
     for (number, name) in REFUSALS {
         row(&format!("{number:2} {name}"), random.refusal_seen(number));
     }
+    println!("random runs, by the takes hidden at most");
+    rows(&HIDDEN, random);
     println!("pairs of files, in random cases");
     rows(&PAIRS, random);
     println!("random runs beside the plain queue");

@@ -23,8 +23,13 @@ pub fn all() -> Vec<Rooms> {
     for entries in [0, 1, 2, 7, 255, MOST_ENTRIES] {
         let needed = trace_room(entries);
         for trace in [0, 1, needed - 1, needed, needed + 1, needed + 300] {
-            for totals in [0, TOTALS_ROOM - 1, TOTALS_ROOM, TOTALS_ROOM + 1] {
-                all.push(Rooms::accepted(entries, 2 * totals, trace, totals));
+            for (sizes, totals) in [
+                (0, 0),
+                (SIZES_ROOM - 1, TOTALS_ROOM - 1),
+                (SIZES_ROOM, TOTALS_ROOM),
+                (SIZES_ROOM + 1, TOTALS_ROOM + 1),
+            ] {
+                all.push(Rooms::accepted(entries, sizes, trace, totals));
             }
         }
     }

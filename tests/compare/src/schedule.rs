@@ -101,9 +101,18 @@ impl Draft {
     }
 
     pub fn has_enough_margin(&self) -> bool {
-        let [_, buffer, spacing, margin, ..] = self.sizes;
-        let in_use = if margin == 0 { buffer } else { margin };
-        in_use >= reference::needed_margin(buffer, spacing)
+        self.margin_in_use() >= self.needed_margin()
+    }
+
+    pub fn margin_in_use(&self) -> u32 {
+        match self.sizes[MARGIN] {
+            0 => self.sizes[BUFFER],
+            margin => margin,
+        }
+    }
+
+    pub fn needed_margin(&self) -> u32 {
+        reference::needed_margin(self.sizes[BUFFER], self.sizes[SPACING])
     }
 }
 

@@ -13,6 +13,8 @@ pub struct Script {
     pub draft: Draft,
     /// Outcome and value of each entry.
     expected: Vec<(u8, u32)>,
+    /// The most takes that are hidden after an entry, if it is told.
+    hidden: Option<u32>,
     /// How the whole file is refused, if it is.
     refusal: Option<Answer>,
 }
@@ -22,6 +24,7 @@ impl Script {
         Script {
             draft: Draft::new(sizes),
             expected: Vec::new(),
+            hidden: None,
             refusal: None,
         }
     }
@@ -102,6 +105,12 @@ impl Script {
         begun.gets(THIEF_STEP, thief, outcome, value)
     }
 
+    /// So many takes must be hidden after some entry, and never more.
+    pub fn hiding(mut self, takes: u32) -> Self {
+        self.hidden = Some(takes);
+        self
+    }
+
     /// A last entry for which the whole file is refused.
     pub fn refused(mut self, kind: u8, operand: u32, number: u32) -> Self {
         let place = self.draft.entries.len() as u32;
@@ -117,6 +126,9 @@ impl Script {
         let given = case.examine(tally)?;
         case.hold("refusal", self.refusal, given.as_ref().err().copied())?;
         let Ok(ran) = given else { return Ok(()) };
+        if let Some(hidden) = self.hidden {
+            case.hold("takes hidden", hidden, ran.hidden())?;
+        }
         let given = ran.outcomes.into_iter().zip(ran.values);
         for (entry, (expected, given)) in self.expected.iter().zip(given).enumerate() {
             case.hold(&format!("outcome of entry {entry}"), *expected, given)?;

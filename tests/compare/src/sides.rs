@@ -1,12 +1,13 @@
 //! Both implementations in one shape, so that each comparison is written once.
 
-use reference::{Refusal, Sizes};
+use reference::{Refusal, Sizes, Totals};
 
 use crate::ffi;
 
-/// Bytes that must be lent for the six sizes, and for the three totals.
+/// Bytes that must be lent for the six sizes, and for the four totals: given,
+/// aborts, waits and hidden.
 pub const SIZES_ROOM: usize = 24;
-pub const TOTALS_ROOM: usize = 12;
+pub const TOTALS_ROOM: usize = 16;
 
 /// What an operation answers: refusal number 0 with a value, or a refusal
 /// number with its place.
@@ -103,7 +104,12 @@ fn reference_run(file: &[u8], trace: &mut [u8], totals: &mut [u8]) -> Answer {
     let short = totals.len() < TOTALS_ROOM;
     let trace = if short { &mut [] } else { trace };
     Answer::of(reference::run(file, trace).map(|ran| {
-        put_numbers(totals, &[ran.given, ran.aborts, ran.waits]);
+        let Totals {
+            given,
+            aborts,
+            waits,
+        } = ran.totals;
+        put_numbers(totals, &[given, aborts, waits, ran.hidden]);
         0
     }))
 }

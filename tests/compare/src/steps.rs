@@ -2,13 +2,14 @@
 
 use crate::checks::{Case, Disagreement, Verdict};
 use crate::edges::SIZES;
+use crate::hidden::{self, Made};
 use crate::image::{meaning, Image, NUMBERS, THIEF_CALLS, WORKER_CALL};
 use crate::limits::Limit;
 use crate::operations::Stepped;
 use crate::random::Random;
 use crate::schedule::{
-    Entry, ABORT, BEGIN_PUT, BEGIN_STEAL, BEGIN_TAKE, CLIENT_STORE, DRAIN, EARLY, MOVED, PLACE,
-    TASK, THIEF_STEP, THIEVES, WAIT, WORKER_STEP,
+    Entry, ABORT, BEGIN_PUT, BEGIN_STEAL, BEGIN_TAKE, CLIENT_STORE, DRAIN, MOVED, PLACE, TASK,
+    THIEF_STEP, THIEVES, WAIT, WORKER_STEP,
 };
 use crate::sides::from_file_order;
 use crate::single::Single;
@@ -26,8 +27,8 @@ struct Step<'a> {
 }
 
 impl Step<'_> {
-    /// Makes the step on both sides, and gives the outcome's number.
-    fn examine(&self, single: &Single) -> Result<u8, Disagreement> {
+    /// Makes the step on both sides.
+    fn examine(&self, single: &Single) -> Result<Made, Disagreement> {
         guarded(|| self.compare(single)).map_err(|found| found.of(&self.name()))
     }
 
@@ -40,7 +41,7 @@ impl Step<'_> {
         format!("on {machine}\n  kind {kind}, operand {operand}, totals {totals:?}")
     }
 
-    fn compare(&self, single: &Single) -> Result<u8, Disagreement> {
+    fn compare(&self, single: &Single) -> Result<Made, Disagreement> {
         let image = self.machine.bytes();
         let case = Case::new(&image, 0);
         let proved = single.ask(&case, |program| {
@@ -51,12 +52,13 @@ impl Step<'_> {
         if proved != reference {
             return Err(self.difference(&case, &proved, &reference));
         }
-        self.sound(&case, &image, &proved)?;
-        Ok(proved.0)
+        let made = Made::of(kind, &proved);
+        self.sound(&case, &image, &proved, &made)?;
+        Ok(made)
     }
 
     fn difference(&self, case: &Case, proved: &Stepped, reference: &Stepped) -> Disagreement {
-        let (ours, theirs) = (Image::of(&proved.3), Image::of(&reference.3));
+        let (ours, theirs) = (Image::of(&proved.4), Image::of(&reference.4));
         let number = |place| {
             let before = self.machine.at(place);
             let what = format!("number {place}, {}, was {before}", meaning(place));
@@ -66,6 +68,7 @@ impl Step<'_> {
             case.same("outcome", proved.0, reference.0),
             case.same("value", proved.1, reference.1),
             case.same("totals", proved.2, reference.2),
+            case.same("takes hidden", proved.3, reference.3),
         ];
         let all = answers.into_iter().chain((0..NUMBERS).map(number));
         let told = all.filter_map(Result::err).map(|found| found.what);
@@ -73,8 +76,8 @@ impl Step<'_> {
     }
 
     /// What any step must be, whoever made it.
-    fn sound(&self, case: &Case, image: &[u8], stepped: &Stepped) -> Verdict {
-        let &(outcome, value, totals, ref after) = stepped;
+    fn sound(&self, case: &Case, image: &[u8], stepped: &Stepped, made: &Made) -> Verdict {
+        let &(outcome, value, totals, _, ref after) = stepped;
         let known = OUTCOMES.iter().any(|row| row.0 == outcome);
         case.hold("a known outcome", true, known)?;
         let valued = outcome == TASK || value == 0;
@@ -84,8 +87,9 @@ impl Step<'_> {
             expected[which] = expected[which].saturating_add(1);
         }
         case.hold("totals", expected, totals)?;
-        let unchanged = !matches!(outcome, PLACE | EARLY | WAIT) || after == image;
-        case.hold("5, 6 and 7 change nothing", true, unchanged)
+        let unchanged = !made.is_refused() || after == image;
+        case.hold("5, 6 and 7 change nothing", true, unchanged)?;
+        made.sound(case, &Image::of(after))
     }
 }
 
@@ -97,6 +101,7 @@ pub fn examine(
     tally: &mut Tally,
 ) -> Result<bool, Disagreement> {
     let mut in_range = true;
+    let mut all = Vec::new();
     for entry in entries(machine, random) {
         let around = totals_around(random);
         let totals = [(); 3].map(|()| random.pick(&around));
@@ -105,13 +110,19 @@ pub fn examine(
             totals,
             entry,
         };
-        let outcome = step.examine(single)?;
-        tally.outcome(outcome);
+        let made = step.examine(single)?;
+        tally.outcome(made.outcome);
         // To begin a put needs nothing, so in range it never waits.
-        in_range &= entry.0 != BEGIN_PUT || outcome != WAIT;
+        in_range &= entry.0 != BEGIN_PUT || made.outcome != WAIT;
+        all.push(made);
     }
-    let range = [Count::OutOfRange, Count::InRange];
-    tally.count(range[usize::from(in_range)]);
+    hidden::hold(machine, &all, tally)?;
+    let tail_pending = machine.pending_tails() > 0;
+    tally.count_seen([
+        (Count::InRange, in_range),
+        (Count::OutOfRange, !in_range),
+        (Count::OutWithTailPending, !in_range && tail_pending),
+    ]);
     Ok(in_range)
 }
 
@@ -189,7 +200,7 @@ pub fn hold_totals(totals: [u32; 3], single: &Single, tally: &mut Tally) -> Verd
             totals,
             entry,
         };
-        let given = step.examine(single)?;
+        let given = step.examine(single)?.outcome;
         tally.outcome(given);
         let held = Case::new(&machine.bytes(), 0).hold("outcome", outcome, given);
         held.map_err(|found| found.of(&step.name()))?;

@@ -1,7 +1,7 @@
 //! What has been seen, counted by each thread and added up at the end.
 
 use crate::checks::Ran;
-use crate::schedule::{ABORT, EARLY, EMPTY, END, FULL, MOVED, PLACE, STORED, TASK, WAIT};
+use crate::schedule::{Draft, ABORT, EARLY, EMPTY, END, FULL, MOVED, PLACE, STORED, TASK, WAIT};
 
 /// Every outcome an entry can have.
 pub const OUTCOMES: [(u8, &str); 10] = [
@@ -58,14 +58,50 @@ pub enum Count {
     RepeatedOutOfPlace,
     RepeatedWhenFull,
     SheetRoom,
+    NoneHidden,
+    OneHidden,
+    MoreHidden,
+    AllNeededHidden,
+    PastMarginHidden,
     InRange,
     OutOfRange,
+    OutWithTailPending,
+    OneHandedOn,
+    MoreHandedOn,
+    AnotherHandedOn,
+    OneDrained,
+    LedOutHiding,
 }
 
 /// What a machine that is handed over can be.
-pub const MACHINES: [(&str, Count); 2] = [
+pub const MACHINES: [(&str, Count); 3] = [
     ("machines in range", Count::InRange),
     ("machines out of range", Count::OutOfRange),
+    ("  with a tail store pending", Count::OutWithTailPending),
+];
+
+/// What a step can make of the takes that are hidden.
+pub const HANDED_ON: [(&str, Count); 5] = [
+    (
+        "steps to a machine with one take hidden",
+        Count::OneHandedOn,
+    ),
+    ("steps to one with more", Count::MoreHandedOn),
+    ("steps that hid a take", Count::AnotherHandedOn),
+    ("steps that drained a hidden one", Count::OneDrained),
+    ("steps out of range, takes hidden", Count::LedOutHiding),
+];
+
+/// The most takes that were hidden in a run.
+pub const HIDDEN: [(&str, Count); 5] = [
+    ("no take hidden", Count::NoneHidden),
+    ("one take hidden", Count::OneHidden),
+    ("more takes hidden", Count::MoreHidden),
+    ("  as many as the needed margin", Count::AllNeededHidden),
+    (
+        "  more than the margin that is set",
+        Count::PastMarginHidden,
+    ),
 ];
 
 /// What becomes of share sheets, and of the blocks in those that are written.
@@ -86,18 +122,38 @@ pub const SHEETS: [(&str, Count); 14] = [
     ("sheets refused, 8 ROOM", Count::SheetRoom),
 ];
 
-const COUNTS: usize = Count::OutOfRange as usize + 1;
+const COUNTS: usize = Count::LedOutHiding as usize + 1;
 
-#[derive(Clone, Default)]
+#[derive(Clone)]
 pub struct Tally {
     outcomes: [u64; 22],
     refusals: [u64; 9],
     counts: [u64; COUNTS],
 }
 
+/// Nothing seen.
+impl Default for Tally {
+    fn default() -> Self {
+        Tally {
+            outcomes: [0; 22],
+            refusals: [0; 9],
+            counts: [0; COUNTS],
+        }
+    }
+}
+
 impl Tally {
     pub fn count(&mut self, what: Count) {
         self.counts[what as usize] += 1;
+    }
+
+    /// Counts each that is said to be seen.
+    pub fn count_seen<const N: usize>(&mut self, all: [(Count, bool); N]) {
+        for (what, seen) in all {
+            if seen {
+                self.count(what);
+            }
+        }
     }
 
     pub fn of(&self, what: Count) -> u64 {
@@ -110,10 +166,19 @@ impl Tally {
         }
     }
 
-    pub fn run(&mut self, ran: &Ran) {
+    pub fn run(&mut self, draft: &Draft, ran: &Ran) {
         for &outcome in &ran.outcomes {
             self.outcome(outcome);
         }
+        let hidden = ran.hidden();
+        let all_needed = hidden == draft.needed_margin();
+        self.count_seen([
+            (Count::NoneHidden, hidden == 0),
+            (Count::OneHidden, hidden == 1),
+            (Count::MoreHidden, hidden > 1),
+            (Count::AllNeededHidden, hidden > 1 && all_needed),
+            (Count::PastMarginHidden, hidden > draft.margin_in_use()),
+        ]);
     }
 
     pub fn outcome(&mut self, outcome: u8) {
@@ -134,24 +199,26 @@ impl Tally {
 
     /// Names of what never came up in single steps.
     pub fn missing_steps(&self) -> Vec<&'static str> {
-        let machines = MACHINES.iter().filter(|row| self.of(row.1) == 0);
-        let outcomes = self.missing_outcomes();
-        outcomes
-            .into_iter()
-            .chain(machines.map(|row| row.0))
-            .collect()
+        let mut missing = self.missing_outcomes();
+        missing.extend(self.missing_rows(&MACHINES));
+        missing.extend(self.missing_rows(&HANDED_ON));
+        missing
     }
 
-    /// Names of the outcomes, refusals and share sheets that never came up.
+    /// Names of the outcomes, refusals, numbers of hidden takes and share sheets
+    /// that never came up.
     pub fn missing(&self) -> Vec<&'static str> {
         let refusals = REFUSALS.iter().filter(|row| self.refusal_seen(row.0) == 0);
-        let sheets = SHEETS.iter().filter(|row| self.of(row.1) == 0);
-        let outcomes = self.missing_outcomes();
-        outcomes
-            .into_iter()
-            .chain(refusals.map(|row| row.1))
-            .chain(sheets.map(|row| row.0.trim_start()))
-            .collect()
+        let mut missing = self.missing_outcomes();
+        missing.extend(refusals.map(|row| row.1));
+        missing.extend(self.missing_rows(&HIDDEN));
+        missing.extend(self.missing_rows(&SHEETS));
+        missing
+    }
+
+    fn missing_rows(&self, rows: &[(&'static str, Count)]) -> Vec<&'static str> {
+        let missing = rows.iter().filter(|row| self.of(row.1) == 0);
+        missing.map(|row| row.0.trim_start()).collect()
     }
 
     fn missing_outcomes(&self) -> Vec<&'static str> {

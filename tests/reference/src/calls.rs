@@ -69,7 +69,7 @@ impl<T: Copy + Default> Put<T> {
                 Progress::Next(Put::StoreTail { task })
             }
             Put::StoreTail { .. } => {
-                machine.worker_store_tail(tail + 1)?;
+                machine.worker_store_tail(tail, tail + 1)?;
                 Progress::Answer(Outcome::Stored)
             }
         };
@@ -81,8 +81,9 @@ impl Take {
     pub(crate) fn step<T: Copy + Default>(self, machine: &mut Machine<T>) -> Step<Take, T> {
         let next = match self {
             Take::StoreTail => {
-                let t = machine.worker_tail() - 1;
-                machine.worker_store_tail(t)?;
+                let tail = machine.worker_tail();
+                let t = tail - 1;
+                machine.worker_store_tail(tail, t)?;
                 Take::LoadHead { t }
             }
             Take::LoadHead { t } if t >= machine.head() => Take::LoadSlot { t },
@@ -96,7 +97,8 @@ impl Take {
             Take::LoadHeadAgain { t } if machine.head() > t => Take::RestoreTail { t },
             Take::LoadHeadAgain { t } => Take::UnlockForTask { t },
             Take::RestoreTail { t } => {
-                machine.worker_store_tail(t + 1)?;
+                // A machine that was handed over may have another tail than t.
+                machine.worker_store_tail(machine.worker_tail(), t + 1)?;
                 Take::UnlockForEmpty
             }
             Take::UnlockForEmpty => {

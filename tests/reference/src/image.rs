@@ -47,7 +47,11 @@ const SLOT_STORE: i64 = 2;
 type Cells = [i64; 3];
 
 /// Makes one step on a machine and brings the totals of given, aborts and
-/// waits up to date: the outcome's number and value, the totals, the machine.
+/// waits up to date: the outcome's number and value, the totals, the stores of
+/// take step 1 that are pending in the machine after the step, that machine.
+///
+/// A machine out of range tells 0 of such stores, whether it was handed over
+/// like that or the step has led there.
 ///
 /// The operand is the task of a put or the number of a thief, whether there is
 /// such a thief or not, and of no account for other kinds.
@@ -62,16 +66,17 @@ pub fn step_of_image(
     totals: [u32; 3],
     kind: u8,
     operand: u32,
-) -> (u8, u32, [u32; 3], Vec<u8>) {
+) -> (u8, u32, [u32; 3], u32, Vec<u8>) {
     let entry = Entry::of_kind(kind, operand).expect("a kind is 0 to 6");
     let mut image = Image::from_bytes(machine);
-    let outcome = image.obey(entry);
+    let (outcome, hidden) = image.obey(entry);
     let mut totals = Totals::from_printed_order(totals);
     totals.count(&outcome);
     (
         outcome.number(),
         outcome.value(),
         totals.in_printed_order(),
+        hidden,
         image.to_bytes(),
     )
 }
@@ -100,19 +105,27 @@ impl Image {
         self.0.iter().flat_map(|it| it.to_le_bytes()).collect()
     }
 
-    fn obey(&mut self, entry: Entry<u32>) -> Outcome<u32> {
+    /// Becomes the machine after the entry; gives the outcome, and what that
+    /// machine tells of pending stores of take step 1.
+    fn obey(&mut self, entry: Entry<u32>) -> (Outcome<u32>, u32) {
         let Some(sizes) = self.sizes_in_range() else {
-            return Outcome::Wait;
+            return (Outcome::Wait, 0);
         };
-        if !range::is_there(entry, &sizes) {
-            return Outcome::Wait;
-        }
         let mut bench = self.bench(&sizes).expect("no more is pending than fits");
-        let outcome = bench.obey(entry);
+        let outcome = if range::is_there(entry, &sizes) {
+            bench.obey(entry)
+        } else {
+            Outcome::Wait
+        };
         if !outcome.is_refused() {
             self.follow(&bench, entry);
         }
-        outcome
+        // The step may have led out of range, which only the row can tell.
+        let hidden = match self.sizes_in_range() {
+            Some(_) => bench.machine().hidden(),
+            None => 0,
+        };
+        (outcome, hidden)
     }
 
     /// The place `which` among the stores or the calls that begin at `start`.
@@ -128,13 +141,14 @@ impl Image {
 /// From the row to a bench.
 impl Image {
     /// The bench that a machine in range stands for. The stores are made once
-    /// more, each as the worker made it.
+    /// more, each as the worker made it, so that what the machine keeps about
+    /// them comes out as if it had been there all the time.
     fn bench(&self, sizes: &Sizes) -> Result<Bench<u32>, Wait> {
         let mut machine = Machine::with_memory(self.memory(sizes), sizes);
         for which in 0..self.0[PENDING] as usize {
             match self.cells(STORES, which) {
                 [SLOT_STORE, index, task] => machine.worker_store(index, task_number(task))?,
-                [TAIL_STORE, tail, _] => machine.worker_store_tail(tail)?,
+                [TAIL_STORE, tail, _] => machine.worker_store_tail(machine.worker_tail(), tail)?,
                 _ => machine.client_store()?,
             }
         }
@@ -235,4 +249,30 @@ fn lock_of(entry: Entry<u32>) -> i64 {
 
 fn task_number(task: i64) -> u32 {
     u32::try_from(task).expect("a task number has 32 bits")
+}
+
+#[cfg(test)]
+mod tests {
+    use super::*;
+    use crate::common::Dice;
+
+    #[test]
+    fn a_machine_handed_over_keeps_the_number_of_a_pass() {
+        let mut dice = Dice::new(33);
+        let mut met = [0; 65];
+        for _ in 0..20_000 {
+            let image = Image::from_bytes(&dice.row().bytes());
+            let sizes = image.sizes_in_range().expect("the row is in range");
+            let mut bench = image.bench(&sizes).expect("no more is pending than fits");
+            let handed_over = bench.machine();
+            assert_eq!(handed_over.hidden(), handed_over.hidden_by_a_pass());
+            met[handed_over.hidden() as usize] += 1;
+
+            let kind = dice.pick(&[0, 1, 2, 3, 4, 4, 4, 5, 6]);
+            bench.obey(Entry::of_kind(kind, 0).expect("a kind is 0 to 6"));
+            let after = bench.machine();
+            assert_eq!(after.hidden(), after.hidden_by_a_pass());
+        }
+        assert!(met[..8].iter().all(|&times| times > 20), "{met:?}");
+    }
 }

@@ -2,10 +2,11 @@
 //! fence-free work-stealing queue that runs on it.
 //!
 //! A schedule file says, entry by entry, which party moves next. [`run`] obeys
-//! it and leaves a trace, [`lines`] says the same in text, [`alike`] compares
-//! what two schedules answer, and [`plain_queue::judge`] holds the answers
-//! against a queue that has no late stores at all. Where tasks are the blocks
-//! of a design, [`share_sheet`] writes down which party was given which.
+//! it, leaves a trace and tells how far memory's tail fell behind, [`lines`]
+//! says the same in text, [`alike`] compares what two schedules answer, and
+//! [`plain_queue::judge`] holds the answers against a queue that has no late
+//! stores at all. Where tasks are the blocks of a design, [`share_sheet`]
+//! writes down which party was given which.
 //!
 //! Smaller questions have answers of their own: [`step_of_image`] makes one
 //! step on any machine, also one out of range, [`entry_at`] says what stands at
@@ -13,6 +14,14 @@
 //! places, and [`parts`] cuts a file into its arrays.
 
 #![forbid(unsafe_code)]
+
+// The unit tests borrow the dice of the tests outside, which know the crate by
+// its name.
+#[cfg(test)]
+extern crate self as reference;
+#[cfg(test)]
+#[path = "../tests/common/mod.rs"]
+mod common;
 
 mod alike;
 mod bench;
@@ -35,7 +44,7 @@ pub use alike::alike;
 pub use format::{check_entries, entry_at, parts, read, write, Schedule};
 pub use image::{fresh_image, step_of_image, IMAGE_BYTES};
 pub use lines::lines;
-pub use outcome::Totals;
+pub use outcome::{Summary, Totals};
 pub use refusal::Refusal;
 pub use share_sheet::share_sheet;
 pub use sizes::{needed_margin, Sizes};

@@ -5,7 +5,7 @@ use std::fmt::{self, Write};
 use crate::bench::Bench;
 use crate::entry::Entry;
 use crate::format::decode;
-use crate::outcome::Totals;
+use crate::outcome::{Summary, Totals};
 use crate::sizes::Sizes;
 
 /// Everything the program prints for `file`, each line with its line end.
@@ -35,16 +35,20 @@ fn write_schedule(text: &mut String, sizes: &Sizes, entries: &[Entry<u32>]) -> f
     writeln!(text, "{margin}")?;
 
     let mut bench = Bench::new(sizes);
-    let mut totals = Totals::default();
+    let mut summary = Summary::default();
     for (place, &entry) in entries.iter().enumerate() {
         let outcome = bench.obey(entry);
         writeln!(text, "{place} {} {}", outcome.number(), outcome.value())?;
-        totals.count(&outcome);
+        summary.count(&outcome, bench.machine().hidden());
     }
+    let Summary { totals, hidden } = summary;
     let Totals {
         given,
         aborts,
         waits,
     } = totals;
-    writeln!(text, "given {given} aborts {aborts} waits {waits}")
+    writeln!(
+        text,
+        "given {given} aborts {aborts} waits {waits} hidden {hidden}"
+    )
 }

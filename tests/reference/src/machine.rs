@@ -40,6 +40,10 @@ pub(crate) struct Machine<T> {
     /// The store buffer, oldest first; `buffer` is its capacity.
     pending: VecDeque<Store<T>>,
     buffer: usize,
+    /// What [`Machine::hidden`] tells, kept up to date as tail stores come and
+    /// go: it is asked for after every entry, and a pass over a long buffer
+    /// would cost more than the entry itself.
+    hidden: u32,
 }
 
 impl<T: Copy + Default> Machine<T> {
@@ -60,6 +64,7 @@ impl<T: Copy + Default> Machine<T> {
             memory,
             pending: VecDeque::with_capacity(buffer),
             buffer,
+            hidden: 0,
         }
     }
 
@@ -67,7 +72,12 @@ impl<T: Copy + Default> Machine<T> {
     pub(crate) fn drain(&mut self) -> Result<(), Wait> {
         match self.pending.pop_front().ok_or(Wait)? {
             Store::Slot { slot, task, .. } => self.memory.slots[slot] = task,
-            Store::Tail(tail) => self.memory.tail = tail,
+            Store::Tail(tail) => {
+                // All tails stored before it have arrived, so memory has what
+                // was the worker's tail when it stored this one.
+                self.hidden -= u32::from(tail < self.memory.tail);
+                self.memory.tail = tail;
+            }
             Store::Client => {}
         }
         Ok(())
@@ -106,6 +116,13 @@ impl<T: Copy + Default> Machine<T> {
         newest.unwrap_or(self.memory.tail)
     }
 
+    /// How many stores of take step 1 are pending: tail stores below the tail
+    /// store before them or, for the first, below memory's tail. No other step
+    /// lowers the tail: a put raises it, and an empty take puts it back up.
+    pub(crate) fn hidden(&self) -> u32 {
+        self.hidden
+    }
+
     pub(crate) fn worker_load(&self, index: i64) -> T {
         let wanted = self.slot_of(index);
         let newest = self.pending.iter().rev().find_map(|store| match *store {
@@ -120,8 +137,12 @@ impl<T: Copy + Default> Machine<T> {
         self.push(Store::Slot { index, slot, task })
     }
 
-    pub(crate) fn worker_store_tail(&mut self, tail: i64) -> Result<(), Wait> {
-        self.push(Store::Tail(tail))
+    /// Stores a tail, `before` being the worker's so far: who wants to move it
+    /// has mostly found it already, so it is not searched for here once more.
+    pub(crate) fn worker_store_tail(&mut self, before: i64, tail: i64) -> Result<(), Wait> {
+        self.push(Store::Tail(tail))?;
+        self.hidden += u32::from(tail < before);
+        Ok(())
     }
 
     pub(crate) fn client_store(&mut self) -> Result<(), Wait> {
@@ -181,5 +202,62 @@ impl<T: Copy + Default> Machine<T> {
 
     pub(crate) fn memory_load(&self, index: i64) -> T {
         self.memory.slots[self.slot_of(index)]
+    }
+}
+
+/// An oracle for the kept number.
+#[cfg(test)]
+impl<T: Copy + Default> Machine<T> {
+    /// The sentence that [`Machine::hidden`] goes by, as it is written.
+    pub(crate) fn hidden_by_a_pass(&self) -> u32 {
+        let mut before = self.memory.tail;
+        let mut hidden = 0;
+        for store in &self.pending {
+            if let Store::Tail(tail) = *store {
+                hidden += u32::from(tail < before);
+                before = tail;
+            }
+        }
+        hidden
+    }
+}
+
+#[cfg(test)]
+mod tests {
+    use super::*;
+    use crate::common::Dice;
+
+    /// A store of any kind, a tail now and then far from the one before.
+    fn store(machine: &mut Machine<u32>, dice: &mut Dice) -> Result<(), Wait> {
+        let before = machine.worker_tail();
+        let near = before + i64::from(dice.below(3)) - 1;
+        let tail = dice.pick(&[near, near, near, -1, 1 << 31]);
+        match dice.below(4) {
+            0 => machine.client_store(),
+            1 => machine.worker_store(tail, 9),
+            _ => machine.worker_store_tail(before, tail),
+        }
+    }
+
+    #[test]
+    fn the_kept_number_is_that_of_a_pass() {
+        let mut dice = Dice::new(31);
+        let (mut met, mut waits) = ([0; 65], 0);
+        for _ in 0..600 {
+            let mut machine = Machine::new(&dice.sizes());
+            let drains_in_8 = dice.pick(&[1, 3, 4, 5]);
+            for _ in 0..400 {
+                let step = if dice.below(8) < drains_in_8 {
+                    machine.drain()
+                } else {
+                    store(&mut machine, &mut dice)
+                };
+                assert_eq!(machine.hidden(), machine.hidden_by_a_pass());
+                met[machine.hidden() as usize] += 1;
+                waits += u32::from(step == Err(Wait));
+            }
+        }
+        assert!(met[..16].iter().all(|&times| times > 100), "{met:?}");
+        assert!(waits > 10_000, "{waits} waits");
     }
 }

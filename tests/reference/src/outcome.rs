@@ -1,4 +1,5 @@
-//! What an entry comes to: its number and value in the trace, and the tally.
+//! What an entry comes to: its number and value in the trace, and the tally;
+//! and what a whole run comes to.
 
 /// The outcome of one entry, with the task of a TASK as a `T`.
 #[derive(Debug, Clone, Copy, PartialEq, Eq)]
@@ -80,5 +81,22 @@ impl Totals {
             _ => return,
         };
         *total = total.saturating_add(1);
+    }
+}
+
+/// What obeying a whole schedule comes to.
+#[derive(Debug, Clone, Copy, PartialEq, Eq, Default)]
+pub struct Summary {
+    pub totals: Totals,
+    /// The most stores of take step 1 that were pending after any entry.
+    pub hidden: u32,
+}
+
+impl Summary {
+    /// Takes in one entry: its outcome, and the number of such stores in the
+    /// machine it handed back, which is the old one where it was refused.
+    pub(crate) fn count<T>(&mut self, outcome: &Outcome<T>, hidden: u32) {
+        self.totals.count(outcome);
+        self.hidden = self.hidden.max(hidden);
     }
 }

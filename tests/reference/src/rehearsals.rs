@@ -1,8 +1,11 @@
 //! The rehearsals M1 to M9 and the edges around them, as short stories.
 //!
 //! A [`Stage`] obeys and remembers: when its story ends, the same entries go
-//! through the schedule file, and the trace must tell the story again.
+//! through the schedule file, and the trace must tell the story again. After
+//! every entry the number that the machine keeps of takes' stores pending must
+//! be the one that a pass over all stores finds.
 
+mod hidden;
 mod spacing;
 
 use crate::bench::Bench;
@@ -12,7 +15,7 @@ use crate::outcome::Outcome::{
 };
 use crate::plain_queue::{judge, Difference, Verdict};
 use crate::sizes::{needed_margin, Sizes};
-use crate::{run, write};
+use crate::{run, write, Summary};
 
 const ROOMY: Sizes = Sizes {
     slots: 4,
@@ -29,6 +32,8 @@ struct Stage {
     kinds: Vec<u8>,
     operands: Vec<u32>,
     outcomes: Vec<Outcome<u32>>,
+    /// What the machine told, after each entry, of takes' stores pending.
+    hidden: Vec<u32>,
 }
 
 impl Stage {
@@ -39,6 +44,7 @@ impl Stage {
             kinds: Vec::new(),
             operands: Vec::new(),
             outcomes: Vec::new(),
+            hidden: Vec::new(),
         }
     }
 
@@ -48,6 +54,8 @@ impl Stage {
         self.kinds.push(kind);
         self.operands.push(operand);
         self.outcomes.push(outcome);
+        self.hidden.push(self.hidden());
+        assert_eq!(self.hidden(), self.bench.machine().hidden_by_a_pass());
         outcome
     }
 
@@ -138,18 +146,28 @@ impl Stage {
         )
     }
 
+    /// The stores of take step 1 that are pending now.
+    fn hidden(&self) -> u32 {
+        self.bench.machine().hidden()
+    }
+
     fn file(&self) -> Vec<u8> {
         let mut file = vec![0; 28 + 5 * self.kinds.len()];
         write(&self.sizes, &self.kinds, &self.operands, &mut file).expect("a story is a schedule");
         file
     }
 
+    /// The summary and the trace of the same entries in a schedule file.
+    fn told_again(&self) -> (Summary, Vec<u8>) {
+        let mut trace = vec![0xee; 4 + 5 * self.outcomes.len()];
+        let summary = run(&self.file(), &mut trace).expect("a story has room");
+        (summary, trace)
+    }
+
     /// Tells the story again through the file, and once more to the judge.
     fn ends(self) -> Verdict {
-        let file = self.file();
         let entries = self.outcomes.len();
-        let mut trace = vec![0xee; 4 + 5 * entries];
-        run(&file, &mut trace).expect("a story has room");
+        let (summary, trace) = self.told_again();
         let mut told = (entries as u32).to_le_bytes().to_vec();
         told.extend(self.outcomes.iter().map(Outcome::number));
         told.extend(
@@ -158,7 +176,9 @@ impl Stage {
                 .flat_map(|outcome| outcome.value().to_le_bytes()),
         );
         assert_eq!(trace, told);
-        judge(&file).expect("a story is a schedule")
+        let most = self.hidden.iter().copied().max();
+        assert_eq!(summary.hidden, most.unwrap_or(0));
+        judge(&self.file()).expect("a story is a schedule")
     }
 
     fn ends_well(self) {

@@ -2,14 +2,14 @@
 
 use crate::bench::Bench;
 use crate::format::decode;
-use crate::outcome::Totals;
+use crate::outcome::Summary;
 use crate::refusal::Refusal;
 
-/// Obeys the schedule and writes its trace at the start of `trace`.
+/// Obeys the schedule, writes its trace at the start of `trace` and sums it up.
 ///
 /// The room is measured before anything is written, and only after the file
 /// itself has been accepted.
-pub fn run(file: &[u8], trace: &mut [u8]) -> Result<Totals, Refusal> {
+pub fn run(file: &[u8], trace: &mut [u8]) -> Result<Summary, Refusal> {
     let (sizes, entries) = decode(file)?;
     let count = entries.len();
     let trace = trace.get_mut(..4 + 5 * count).ok_or(Refusal::ROOM)?;
@@ -19,12 +19,12 @@ pub fn run(file: &[u8], trace: &mut [u8]) -> Result<Totals, Refusal> {
 
     header.copy_from_slice(&(count as u32).to_le_bytes());
     let mut bench = Bench::new(&sizes);
-    let mut totals = Totals::default();
+    let mut summary = Summary::default();
     for ((entry, number), value) in entries.into_iter().zip(numbers).zip(values) {
         let outcome = bench.obey(entry);
         *number = outcome.number();
         *value = outcome.value().to_le_bytes();
-        totals.count(&outcome);
+        summary.count(&outcome, bench.machine().hidden());
     }
-    Ok(totals)
+    Ok(summary)
 }

@@ -16,7 +16,7 @@ fn the_example_prints_its_lines() {
 3 7 0
 4 0 0
 5 16 0
-given 0 aborts 0 waits 1
+given 0 aborts 0 waits 1 hidden 0
 ";
     assert_eq!(lines(&file(SIZES, &entries)), expected);
 }
@@ -49,15 +49,47 @@ fn the_last_line_has_the_totals() {
     let file = file(SIZES, &[&put[..], &put, &steal, &steal, &wait].concat());
     assert_eq!(
         lines(&file).lines().last(),
-        Some("given 1 aborts 1 waits 1")
+        Some("given 1 aborts 1 waits 1 hidden 0")
     );
+}
+
+/// Three tasks in memory; then takes by twos and ones, drained or not.
+#[test]
+fn the_last_line_ends_with_the_largest_hidden() {
+    let put = [put(9), vec![(0, 0), (0, 0)]].concat();
+    let take = [(3, 0), (4, 0), (4, 0), (4, 0)];
+    let drain = [(0, 0)];
+    let last = |parts: &[&[(u8, u32)]]| {
+        let entries = [&[&put[..], &put, &put], parts].concat().concat();
+        let lines = lines(&file(TWO_THIEVES, &entries));
+        lines.lines().last().map(str::to_owned).unwrap()
+    };
+    for (parts, line) in [
+        (&[][..], "given 0 aborts 0 waits 0 hidden 0"),
+        (&[&take[..1]], "given 0 aborts 0 waits 0 hidden 0"),
+        (&[&take[..2]], "given 0 aborts 0 waits 0 hidden 1"),
+        (&[&take], "given 1 aborts 0 waits 0 hidden 1"),
+        (&[&take, &drain], "given 1 aborts 0 waits 0 hidden 1"),
+        (&[&take, &drain, &take], "given 2 aborts 0 waits 0 hidden 1"),
+        (&[&take, &take, &drain], "given 2 aborts 0 waits 0 hidden 2"),
+        (
+            &[&take, &take, &drain, &drain, &take, &drain, &drain],
+            "given 3 aborts 0 waits 1 hidden 2",
+        ),
+        (
+            &[&take, &take, &take, &drain, &drain],
+            "given 3 aborts 0 waits 0 hidden 3",
+        ),
+    ] {
+        assert_eq!(last(parts), line);
+    }
 }
 
 #[test]
 fn an_empty_schedule_prints_two_lines() {
     assert_eq!(
         lines(&file(SIZES, &[])),
-        "4 1 0 1 1 0 enough\ngiven 0 aborts 0 waits 0\n"
+        "4 1 0 1 1 0 enough\ngiven 0 aborts 0 waits 0 hidden 0\n"
     );
 }
 

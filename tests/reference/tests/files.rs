@@ -6,7 +6,7 @@ mod common;
 use common::{file, refusal, Dice, SHORT, SIZES};
 use reference::plain_queue::judge;
 use reference::{
-    alike, entry_at, lines, parts, read, run, share_sheet, write, Refusal, Sizes, Totals,
+    alike, entry_at, lines, parts, read, run, share_sheet, write, Refusal, Sizes, Summary, Totals,
 };
 
 const ROOM: Refusal = refusal(8, 0);
@@ -55,7 +55,15 @@ fn the_smallest_file_has_no_entries() {
         (SIZES, 0, 0)
     );
     let mut trace = [0xee; 6];
-    assert_eq!(run(&file, &mut trace), Ok(Totals::default()));
+    let nothing = Summary {
+        totals: Totals {
+            given: 0,
+            aborts: 0,
+            waits: 0,
+        },
+        hidden: 0,
+    };
+    assert_eq!(run(&file, &mut trace), Ok(nothing));
     assert_eq!(trace, [0, 0, 0, 0, 0xee, 0xee]);
     assert_eq!(run(&file, &mut [0; 3]), Err(ROOM));
 }
@@ -169,17 +177,15 @@ fn a_task_number_comes_out_with_its_least_byte_first() {
     let take = [(3, 0), (4, 0), (4, 0), (4, 0)];
     let file = file(SIZES, &[&give[..], &take].concat());
     let mut trace = [0xee; 54];
-    let totals = run(&file, &mut trace).unwrap();
+    let summary = run(&file, &mut trace).unwrap();
     assert_eq!(trace[4..14], [0, 0, 0, 0, 16, 0, 0, 0, 0, 17]);
     assert_eq!(trace[50..], [4, 3, 2, 1]);
-    assert_eq!(
-        totals,
-        Totals {
-            given: 1,
-            aborts: 0,
-            waits: 0
-        }
-    );
+    let totals = Totals {
+        given: 1,
+        aborts: 0,
+        waits: 0,
+    };
+    assert_eq!(summary, Summary { totals, hidden: 1 });
 }
 
 #[test]

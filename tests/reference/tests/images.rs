@@ -2,11 +2,13 @@
 
 mod common;
 
+use std::collections::VecDeque;
+
 use common::row::{
     Row, BEGUN, COUNT, HEAD, LOCK, PENDING, SLOTS, STORES, TAIL, THIEVES, TOP, WORKER,
 };
 use common::{file, Dice, SIZES};
-use reference::{fresh_image, run, step_of_image, Sizes, Totals, IMAGE_BYTES};
+use reference::{fresh_image, run, step_of_image, Sizes, Summary, Totals, IMAGE_BYTES};
 
 const ROOMY: Sizes = Sizes {
     buffer: 3,
@@ -16,15 +18,17 @@ const ROOMY: Sizes = Sizes {
 };
 
 /// A schedule entry by entry, from the fresh machine, with its trace.
-fn run_by_images(sizes: &Sizes, entries: &[(u8, u32)]) -> (Vec<u8>, Totals) {
+fn run_by_images(sizes: &Sizes, entries: &[(u8, u32)]) -> (Vec<u8>, Summary) {
     let mut machine = fresh_image(sizes);
     let mut totals = [0; 3];
+    let mut most_hidden = 0;
     let mut trace = (entries.len() as u32).to_le_bytes().to_vec();
     let mut values = Vec::new();
     for &(kind, operand) in entries {
         let before = machine.clone();
-        let (number, value, tally, after) = step_of_image(&machine, totals, kind, operand);
+        let (number, value, tally, hidden, after) = step_of_image(&machine, totals, kind, operand);
         assert!(after == before || !matches!(number, 5..=7));
+        most_hidden = most_hidden.max(hidden);
         trace.push(number);
         values.extend(value.to_le_bytes());
         (totals, machine) = (tally, after);
@@ -36,7 +40,11 @@ fn run_by_images(sizes: &Sizes, entries: &[(u8, u32)]) -> (Vec<u8>, Totals) {
         aborts,
         waits,
     };
-    (trace, totals)
+    let summary = Summary {
+        totals,
+        hidden: most_hidden,
+    };
+    (trace, summary)
 }
 
 #[test]
@@ -49,8 +57,8 @@ fn schedules_go_step_by_step_as_they_run() {
         let count = dice.pick(&[100, 400, 1000]);
         let entries = dice.entries(&sizes, count);
         let mut trace = vec![0xee; 4 + 5 * count];
-        let totals = run(&file(sizes, &entries), &mut trace).unwrap();
-        assert_eq!(run_by_images(&sizes, &entries), (trace.clone(), totals));
+        let summary = run(&file(sizes, &entries), &mut trace).unwrap();
+        assert_eq!(run_by_images(&sizes, &entries), (trace.clone(), summary));
         for &number in &trace[4..4 + count] {
             met[usize::from(number)] += 1;
         }
@@ -356,6 +364,128 @@ fn any_machine_counts_by_the_rule() {
         }
     }
     assert!(counted.iter().all(|&times| times > 50), "{counted:?}");
+}
+
+/// A drain of a client store, so that only the other stores are told of.
+fn hidden(row: &Row, stores: &[[i64; 3]]) -> u32 {
+    let stores = [&[[0, 0, 0]], stores].concat();
+    row.with_pending(&stores).hidden_after(0, 0)
+}
+
+#[test]
+fn pending_tails_are_compared_each_with_the_one_before() {
+    let row = Row::fresh(&Sizes { buffer: 8, ..ROOMY });
+    let row = row.with(TAIL, &[5]);
+    let tails = |tails: &[i64]| {
+        let stores: Vec<[i64; 3]> = tails.iter().map(|&tail| [1, tail, 0]).collect();
+        hidden(&row, &stores)
+    };
+    assert_eq!(tails(&[]), 0);
+    for (tail, number) in [(-1, 1), (4, 1), (5, 0), (6, 0), (TOP, 0)] {
+        assert_eq!(tails(&[tail]), number, "tail {tail} after 5");
+    }
+    assert_eq!(tails(&[4, 3, 2, 1, 0, -1]), 6);
+    assert_eq!(tails(&[6, 7, 8]), 0);
+    assert_eq!(tails(&[4, 4, 4]), 1, "an equal one is not below");
+    assert_eq!(tails(&[4, 5, 4, 5, 4]), 3);
+    assert_eq!(tails(&[6, 5, 6, 5]), 2, "though none is below memory's");
+    assert_eq!(tails(&[0, 1, 2, 3]), 1, "though all are below memory's");
+    assert_eq!(tails(&[TOP, -1, TOP, -1]), 2);
+    let among = [[2, 9, 9], [1, 4, 0], [0, 0, 0], [2, 0, 9], [1, 3, 0]];
+    assert_eq!(hidden(&row, &among), 2, "other stores have no tail");
+}
+
+#[test]
+fn a_drained_tail_is_memorys_from_then_on() {
+    let row = Row::fresh(&ROOMY).with(TAIL, &[5]);
+    let row = row.with_pending(&[[1, 4, 0], [1, 3, 0], [1, 4, 0]]);
+    assert_eq!(row.hidden_after(1, 0), 2, "a wait");
+    assert_eq!(row.hidden_after(0, 0), 1);
+    let row = row.moved(0, 0);
+    assert_eq!(row.hidden_after(0, 0), 0);
+    let row = row.moved(0, 0);
+    assert_eq!(row.hidden_after(0, 0), 0);
+}
+
+#[test]
+fn a_refused_entry_tells_of_the_machine_as_it_was() {
+    let row = Row::fresh(&Sizes {
+        spacing: 1,
+        ..ROOMY
+    });
+    let row = row.with(TAIL, &[2]).with(COUNT, &[0, 1]);
+    let row = row.with_pending(&[[1, 1, 0], [1, 0, 0], [0, 0, 0]]);
+    for (kind, operand, number) in [(4, 0, 5), (3, 0, 6), (1, 0, 7), (6, 1, 5)] {
+        assert_eq!(row.step(kind, operand), (number, 0, row.clone()));
+        assert_eq!(row.hidden_after(kind, operand), 2);
+    }
+    for (kind, nobody) in [(5, 2), (6, 2), (5, 8), (6, u32::MAX)] {
+        assert_eq!(row.step(kind, nobody), (7, 0, row.clone()));
+        assert_eq!(row.hidden_after(kind, nobody), 2, "thief {nobody}");
+    }
+}
+
+/// Request 4's sentence, said once more over the row's numbers.
+fn hidden_in(row: &Row) -> u32 {
+    let stores = row.part(STORES, 3 * row.at(PENDING) as usize).chunks(3);
+    let tails = stores.filter(|store| store[0] == 1).map(|store| store[1]);
+    let tails: Vec<i64> = std::iter::once(row.at(TAIL)).chain(tails).collect();
+    tails.windows(2).filter(|it| it[1] < it[0]).count() as u32
+}
+
+/// To begin a put needs nothing, so only a machine out of range waits.
+fn is_in_range(row: &Row) -> bool {
+    row.step(2, 0).0 != 7
+}
+
+#[test]
+fn any_machine_tells_its_number() {
+    let mut dice = Dice::new(24);
+    let (mut told, mut not_told) = (0, 0);
+    for _ in 0..40_000 {
+        let row = dice.row();
+        let kind = dice.pick(&[0, 1, 2, 3, 4, 4, 4, 4, 5, 6, 6]);
+        let operand = dice.below(row.at(4) as u32 + 1);
+        let after = row.step(kind, operand).2;
+        let hidden = row.hidden_after(kind, operand);
+        if is_in_range(&after) {
+            assert_eq!(hidden, hidden_in(&after));
+            told += u32::from(hidden > 1);
+        } else {
+            assert_eq!(hidden, 0);
+            not_told += u32::from(hidden_in(&after) > 0);
+        }
+    }
+    assert!(told > 1000 && not_told > 100, "{told} and {not_told}");
+}
+
+/// Who made each pending store is remembered here, and not what is in it.
+#[test]
+fn a_schedules_number_is_that_of_its_takes_first_stores() {
+    let mut dice = Dice::new(25);
+    let mut met = [0; 65];
+    for _ in 0..400 {
+        let sizes = Sizes {
+            margin: dice.below(65),
+            ..dice.sizes()
+        };
+        let mut row = Row::fresh(&sizes);
+        let mut by_take_step_1 = VecDeque::new();
+        for (kind, operand) in dice.entries(&sizes, 400) {
+            let hidden = row.hidden_after(kind, operand);
+            let after = row.step(kind, operand).2;
+            match after.at(PENDING) - row.at(PENDING) {
+                1 => by_take_step_1.push_back(kind == 4 && row.at(WORKER) == 4),
+                -1 => drop(by_take_step_1.pop_front()),
+                _ => {}
+            }
+            let pending = by_take_step_1.iter().filter(|&&it| it).count();
+            assert_eq!(hidden as usize, pending);
+            met[pending] += 1;
+            row = after;
+        }
+    }
+    assert!(met[..4].iter().all(|&times| times > 100), "{met:?}");
 }
 
 #[test]

@@ -78,6 +78,25 @@ fn a_short_margin_is_found_out() {
     assert!(twice > 0 && lost > 0, "twice {twice}, lost {lost}");
 }
 
+/// Whichever margin the file sets, short or not.
+#[test]
+fn no_more_takes_are_hidden_than_the_needed_margin() {
+    let mut dice = Dice::new(6);
+    let mut reached = 0;
+    for _ in 0..6000 {
+        let mut sizes = dice.sizes();
+        let needed = needed_margin(sizes.buffer, sizes.spacing);
+        let any = dice.below(65);
+        sizes.margin = dice.pick(&[0, 1, needed, 64, any]);
+        let entries = dice.entries(&sizes, 1000);
+        let mut trace = vec![0; 4 + 5 * entries.len()];
+        let hidden = run(&file(sizes, &entries), &mut trace).unwrap().hidden;
+        assert!(hidden <= needed, "{hidden} hidden under {sizes:?}");
+        reached += u32::from(hidden == needed && needed > 1);
+    }
+    assert!(reached > 500, "{reached} reached");
+}
+
 /// Damaged files must be refused or obeyed, and never anything else.
 #[test]
 fn damage_is_refused_alike_everywhere() {

@@ -14,13 +14,14 @@ const ROOMY: Sizes = Sizes {
     ..SIZES
 };
 
-/// Every operation must give the machine back with 7, which is a wait.
+/// Every operation must give the machine back with 7, which is a wait, and
+/// tell of no pending store whatever is pending.
 fn assert_out(row: &Row) {
     for kind in 0..7 {
         for operand in [0, 1, 8] {
-            let (number, value, totals, machine) =
+            let (number, value, totals, hidden, machine) =
                 step_of_image(&row.bytes(), [5, 6, 7], kind, operand);
-            assert_eq!((number, value, totals), (7, 0, [5, 6, 8]));
+            assert_eq!((number, value, totals, hidden), (7, 0, [5, 6, 8], 0));
             assert_eq!(&Row::of(&machine), row, "kind {kind}");
         }
     }
@@ -238,6 +239,68 @@ fn the_spacing_count_may_run_out_of_range() {
         let (outcome, _, after) = row.with(COUNT + 1, &[0]).step(kind, 0);
         assert_eq!((outcome, after.at(COUNT)), (number, 0));
         assert_in(&after);
+    }
+}
+
+/// A machine in range with one store of a take on its way and no call.
+fn hiding_one() -> Row {
+    let row = Row::fresh(&ROOMY).with(TAIL, &[9]);
+    let row = row.with_pending(&[[1, 5, 0]]);
+    for (kind, operand) in [(2, 9), (3, 0), (4, 0), (5, 0), (6, 1), (6, 2)] {
+        assert_eq!(row.hidden_after(kind, operand), 1);
+    }
+    row
+}
+
+#[test]
+fn a_machine_out_of_range_tells_of_nothing_pending() {
+    let row = hiding_one();
+    for place in [0, 1, 2, 3, 4, 5, HEAD, TAIL, PENDING, COUNT] {
+        assert_out(&row.with(place, &[-2]));
+        assert_out(&row.with(place, &[TOP + 1]));
+    }
+    assert_out(&row.with_pending(&[[1, 5, 0], [1, -2, 0]]));
+    assert_out(&row.with(WORKER, &[12, -1]));
+    assert_out(&row.with(THIEVES + 21, &[5, -1]));
+}
+
+/// Each step is made, and one like it that stays in range tells of the store.
+#[test]
+fn a_step_out_of_range_tells_of_nothing_pending() {
+    let row = hiding_one();
+    let taking = |tail| row.with_pending(&[[1, tail, 0]]).with(WORKER, &[4]);
+    let storing = |tail| row.with_pending(&[[1, tail, 0]]).with(WORKER, &[2, 0, 9]);
+    let raising = |tail| {
+        row.with_pending(&[[1, 5, 0], [1, tail, 0]])
+            .with(WORKER, &[3])
+    };
+    let restoring = |t| row.with(WORKER, &[9, t]);
+    let loading = |t| row.with(HEAD, &[-1]).with(WORKER, &[5, t]);
+    let loading_again = |t| row.with(HEAD, &[-1]).with(WORKER, &[8, t]);
+    let lifting = |h| row.with(THIEVES, &[3, h]);
+    let stealing = |h| row.with(THIEVES, &[4, h]);
+    let counting = |count| row.with(COUNT, &[count, 1]);
+    for (good, hidden, bad, kind, number) in [
+        (taking(0), 2, taking(-1), 4, 0),
+        (storing(0), 1, storing(-1), 4, 0),
+        (raising(TOP - 1), 1, raising(TOP), 4, 16),
+        (restoring(TOP - 1), 1, restoring(TOP), 4, 0),
+        (loading(0), 1, loading(-1), 4, 0),
+        (loading_again(0), 1, loading_again(-1), 4, 0),
+        (lifting(TOP - 1), 1, lifting(TOP), 6, 0),
+        (stealing(0), 1, stealing(-1), 6, 0),
+        (counting(4095), 1, counting(4096), 1, 0),
+    ] {
+        assert_eq!(good.step(kind, 0).0, number);
+        assert_eq!(good.hidden_after(kind, 0), hidden);
+        assert_in(&good.step(kind, 0).2);
+
+        let (outcome, _, after) = bad.step(kind, 0);
+        assert_eq!(outcome, number);
+        assert_ne!(after, bad);
+        assert_eq!(bad.hidden_after(kind, 0), 0);
+        assert_out(&after);
+        assert_in(&bad);
     }
 }
 

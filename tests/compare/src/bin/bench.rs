@@ -146,7 +146,7 @@ fn check(file: &[u8], entries: usize) -> u32 {
     };
     let proved = run(&PROVED);
     assert!(proved == run(&REFERENCE), "the traces differ");
-    number_at(&proved.1[8..])
+    number_at(&proved.1[8..12])
 }
 
 /// Passes over all files until `least` has been spent in runs; nanoseconds an

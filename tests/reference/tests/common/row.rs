@@ -65,8 +65,13 @@ impl Row {
 
     /// Number and value of a step's outcome, and the row after it.
     pub fn step(&self, kind: u8, operand: u32) -> (u8, u32, Row) {
-        let (number, value, _, machine) = step_of_image(&self.bytes(), [0; 3], kind, operand);
+        let (number, value, _, _, machine) = step_of_image(&self.bytes(), [0; 3], kind, operand);
         (number, value, Row::of(&machine))
+    }
+
+    /// The stores of take step 1 that are pending after a step.
+    pub fn hidden_after(&self, kind: u8, operand: u32) -> u32 {
+        step_of_image(&self.bytes(), [0; 3], kind, operand).3
     }
 
     /// The row after a step that must be moved.

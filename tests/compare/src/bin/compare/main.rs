@@ -2,8 +2,9 @@
 //! implementations, and through the program, and machines, arrays and files
 //! through single functions of both, until something differs.
 //!
-//! Exit status 0: everything agrees and every outcome, refusal and kind of share
-//! sheet came up; 1: something differs or never came up; 2: the command line is wrong.
+//! Exit status 0: everything agrees and every outcome, refusal, kind of share
+//! sheet and way of hiding takes came up; 1: something differs or never came up;
+//! 2: the command line is wrong.
 
 mod options;
 mod parts;

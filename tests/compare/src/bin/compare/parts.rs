@@ -32,7 +32,8 @@ const PROGRAM_FILES: u64 = 600;
 /// Machines that schedules lead to, and any others.
 const REACHED: u64 = 2000;
 const ANY: u64 = 4000;
-/// Machines whose parts are put to the edges, one at a time.
+/// Machines of schedules whose parts are put to the edges, one at a time, beside
+/// one that is made for it.
 const BASES: u64 = 4;
 /// Arrays with an entry, a multiple of the number of kind bytes.
 const ARRAYS: u64 = 40 * 256;
@@ -115,6 +116,7 @@ pub fn operations(options: &Options) -> Result<(Vec<Part>, Tally), Found> {
 
 fn single_steps(single: &Single, seed: u64) -> Result<(Vec<Part>, Tally), Found> {
     let bases = (0..BASES).map(|base| machines::reached(&mut Random::of_case(seed, base)));
+    let bases = bases.chain([machines::hiding()]);
     let limits: Vec<_> = bases.flat_map(limits::around).collect();
     let totals = steps::all_totals(&mut Random::new(seed));
 
