@@ -53,7 +53,7 @@ abbrev pub runningAnswer : Running → ℕ
 runningAnswer (Ran t) = 0
 runningAnswer (running.Refused r) = refusalAnswer r
 
--- three totals and, of request 4 in 02, how far memory lagged at most, in the order of the program's last line
+-- four numbers in the order of the program's last line: three totals, and beside them how far memory lagged at most
 abbrev pub totalsPut : Summary → List ℕ → List ℕ
 totalsPut t bytes = wordsPut 0 (t .tally .given ∷ t .tally .aborts ∷ t .tally .waits ∷ t .hidden ∷ []) bytes
 

@@ -1,4 +1,4 @@
--- Lines by example, as one table over the definitions: the example of "The program's lines", a task that is given, steals that abort, two takes undrained and then drained, a refused file, first lines with a margin of 0 and with one that is short, and numbers at the ends of their range. `proofs/Examples.antt`
+-- Lines by example, as one table over the definitions: the example of "The program's lines" with what request 4 adds, a task that is given, steals that abort, two takes undrained and then drained, a refused file, first lines with a margin of 0 and with one that is short, and numbers at the ends of their range. `proofs/Examples.antt`
 -- proves one fact: every row holds.
 use mathlib.Core.Bool.{Bool}
 use mathlib.Core.List.{List, [], _∷_}
@@ -8,16 +8,20 @@ use Rattle.terms.specs.Lists.{equal}
 use Rattle.schedule.specs.Format.{fileOf}
 use Rattle.lines.specs.Types.{Sizes}
 use Rattle.lines.specs.Text.{ascii, decimal}
-use Rattle.lines.specs.Lines.{linesOf}
+use Rattle.lines.specs.Lines.{lastLine, linesOf}
 
 pub data Row : Type 0 where
   -- sizes, kinds and operands of a file, and what is printed for it
   prints : Sizes → (kinds operands : List ℕ) → String → Row
+  -- totals and how far memory lagged, and the last line
+  ends : (given aborts waits hidden : ℕ) → String → Row
   -- a number, and how it is written
   writes : ℕ → String → Row
 
 abbrev pub holds : Row → Bool
 holds (prints s kinds operands text) = equal (linesOf (fileOf s kinds operands)) (ascii text)
+holds (ends given aborts waits hidden text) =
+    equal (lastLine (record { tally = record { given = given; aborts = aborts; waits = waits }; hidden = hidden })) (ascii text)
 holds (writes n text) = equal (decimal n) (ascii text)
 
 abbrev pub table : List Row
@@ -38,6 +42,8 @@ table =
     "256 33 1 33 8 2147483647 enough\ngiven 0 aborts 0 waits 0 hidden 0\n"
     ∷ prints (record { slots = 2; buffer = 33; spacing = 1; margin = 16; thieves = 1; start = 10 }) [] []
     "2 33 1 16 1 10 short\ngiven 0 aborts 0 waits 0 hidden 0\n"
+    ∷ ends 10 9 100 64 "given 10 aborts 9 waits 100 hidden 64\n"
+    ∷ ends 4294967295 0 4096 17 "given 4294967295 aborts 0 waits 4096 hidden 17\n"
     ∷ writes 0 "0"
     ∷ writes 9 "9"
     ∷ writes 10 "10"

@@ -49,7 +49,7 @@ lastLine t = line (totalsWords (t .tally) ++ (ascii "hidden" ∷ decimal (t .hid
 abbrev pub refusalLine : Refusal → List ℕ
 refusalLine r = line (ascii "refused" ∷ decimal (refusal.numberOf r) ∷ ascii "place" ∷ decimal (refusal.placeOf r) ∷ [])
 
--- the lines of a run with these outcomes, of which this is told
+-- the lines of a run with these outcomes and this summary
 abbrev pub runLines : Sizes → List Outcome → Summary → List ℕ
 runLines s os t = sizesLine s ++ entryLines 0 os ++ lastLine t
 

@@ -90,11 +90,11 @@ brinks =
     ∷ brink (withTail (pos 2) (withThief 0 (StealLoadTail minusOne) (fresh m3Sizes))) (ThiefStep 0) Moved
     ∷ []
 
--- with a take's store pending, below memory's tail of 0
+-- with a tail store of −1 pending: a take's, where memory's tail is 0
 abbrev pub takePending : Machine → Machine
 takePending m = pushed (tailStore minusOne) m
 
--- .. or with one below memory's tail of 1, so that the worker's tail is 0
+-- .. or with one of 0, below memory's tail of 1
 abbrev pub takePendingAt0 : Machine → Machine
 takePendingAt0 m = pushed (tailStore zeroth) (withTail (pos 1) m)
 

@@ -10,7 +10,7 @@ use Rattle.machine.specs.Machine.{fresh}
 use Rattle.machine.specs.Update.{pushed, withMemory}
 use Rattle.machine.specs.Stories.{Row, hiding, does, drains, clientStores, filled, puts, steals, takes, takesNothing}
 
--- so many entries that hand on 0, of stories that begin with puts, each fully drained
+-- so many entries that each hand on 0
 abbrev pub zeros : ℕ → List ℕ
 zeros n = replicate n 0
 
@@ -29,7 +29,7 @@ twoTakesHideTwo = hiding (fresh (sized 4 2 0 2 1 0)) (filled 2 ++ takes 2 ++ tak
 abbrev pub stealHidesNothing : Row
 stealHidesNothing = hiding (fresh (sized 4 2 0 2 1 0)) (filled 2 ++ takes 2 ++ takes 1 ++ steals Abort) (zeros 12 ++ 0 ∷ 1 ∷ 1 ∷ 1 ∷ 1 ∷ 2 ∷ 2 ∷ 2 ∷ replicate 7 2)
 
--- a put and its take, all pending: the take's store is below the put's, though memory's tail is no other
+-- a put and its take, all pending: the take's store is below the put's, though it equals memory's tail
 abbrev pub belowThePut : Row
 belowThePut = hiding (fresh (sized 4 3 0 3 1 0)) (puts 1 ++ takes 1 ++ drains 3) (zeros 4 ++ 0 ∷ 1 ∷ 1 ∷ 1 ∷ 1 ∷ 1 ∷ 0 ∷ [])
 

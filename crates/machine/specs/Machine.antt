@@ -85,14 +85,15 @@ hiddenIf ranged takes = cond ranged takes 0
 abbrev pub hidden : Machine → ℕ
 hidden m = hiddenIf (inRange m) (takesPending m)
 
--- what one look at a machine finds, with which every operation begins
+-- what one look at a machine finds, with which every operation begins; for the code alone
 abbrev pub look : Machine → Look
 look m = record { ranged = inRange m; tail = workerTail m; hidden = hidden m }
 
 -- ── What an operation hands back ────────────────────────────────────────────────────────────────────────────────────────────
 
+-- any number; for the code alone
 abbrev pub handing : Outcome → ℕ → Machine → Done
-handing o hidden m = record { machine = m; outcome = o; hidden = hidden }
+handing o n m = record { machine = m; outcome = o; hidden = n }
 
 -- the machine, the outcome, and the number for that machine
 abbrev pub done : Outcome → Machine → Done

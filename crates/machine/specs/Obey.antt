@@ -3,11 +3,13 @@
 use mathlib.Core.Path.{_≡_}
 use mathlib.Core.Bool.{Bool, true, false, cond, _&&_}
 use mathlib.Core.List.{List, [], _∷_}
-use Prim.Native.Nat.{ℕ}
+use Prim.Native.Nat.{ℕ, _≤_}
 use lib.Dec.{ltb}
+use lib.ListN.{length}
 use Rattle.terms.specs.Outcome.{isRefusal}
+use Rattle.terms.specs.Sizes.{sizesInRange}
 use Rattle.machine.specs.Types.{Done, Entry, Drain, ClientStore, BeginPut, BeginTake, WorkerStep, BeginSteal, ThiefStep, Machine, Outcome, Wait, Sizes}
-use Rattle.machine.specs.Machine.{done, hidden, thiefCall}
+use Rattle.machine.specs.Machine.{done, fresh, hidden, thiefCall}
 use Rattle.machine.specs.InRange.{inRange}
 use Rattle.machine.specs.Perform.{stepOfThief, stepOfWorker}
 use Rattle.machine.specs.Entries.{beginPut, beginSteal, beginTake, drain, makeClientStore}
@@ -63,3 +65,7 @@ outcomesOf m (e ∷ es) = obey m e .outcome ∷ outcomesOf (obey m e .machine) e
 abbrev pub hiddenOf : Machine → List Entry → List ℕ
 hiddenOf m [] = []
 hiddenOf m (e ∷ es) = obey m e .hidden ∷ hiddenOf (obey m e .machine) es
+
+-- A run of at most 4,096 entries never leads out of range, whichever margin is set. Proved in `proofs/Linearizable/AnyMargin.antt`.
+abbrev pub RunInRange : Type 0
+RunInRange = (s : Sizes) (es : List Entry) → sizesInRange s ≡ true → length es ≤ 4096 → inRange (machineAfter (fresh s) es) ≡ true

@@ -22,6 +22,9 @@
 // - `machine`: memory, lock, store buffer and calls together, whether all of it is in range, what the parties load, and
 //   the operations, one for each kind of entry and `obey` for any of them;
 // - `steps`: the two operations that make a step.
+//
+// An operation hands back the machine, the entry's outcome, and how far memory lags behind the worker there: how many
+// stores are pending by which takes have lowered the tail.
 mod machine;
 mod steps;
 mod thief;

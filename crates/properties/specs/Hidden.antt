@@ -20,7 +20,7 @@ HiddenWithinNeeded =
     (s : Sizes) (es : List Entry) → sizesInRange s ≡ true
     → (at : ℕ) → getD (hiddenOf (fresh s) es) at 0 ≤ neededMargin (s .buffer) (s .spacing)
 
--- In a run it is always the count of pending stores, since no machine there is out of range.
+-- In a run it is always the count of the pending stores of take step 1, since no machine there is out of range (`RunInRange`, of `machine`).
 abbrev pub HiddenIsPending : Type 0
 HiddenIsPending =
     (s : Sizes) (es : List Entry) → sizesInRange s ≡ true → length es ≤ 4096

@@ -1,4 +1,4 @@
--- Whose the pending stores are. Request 4, in 02, says its number twice: how many stores of take step 1 are pending, and how many tail stores are below the one before them. The second is what the machine counts; here stands the
+-- Whose the pending stores are. Request 4, in 02, says its number twice: how many stores of take step 1 are pending, and how many tail stores are below the one before them or, for the first, below memory's tail. The second is what the machine counts; here stands the
 -- first, by who made each store, and that it comes to the same. Proved in `proofs/TakeStores.antt`.
 use mathlib.Core.Path.{_≡_}
 use mathlib.Core.Bool.{Bool, true, false, cond}
@@ -49,7 +49,7 @@ abbrev pub howMany : List Bool → ℕ
 howMany [] = 0
 howMany (one ∷ made) = cond one 1 0 + howMany made
 
--- behind every list of entries from the fresh machine, with any margin, where nothing is pending
+-- after every list of entries from the fresh machine, where nothing is pending yet, with any margin
 abbrev pub TakeStoresAreTakes : Type 0
 TakeStoresAreTakes =
     (s : Sizes) (es : List Entry) → sizesInRange s ≡ true

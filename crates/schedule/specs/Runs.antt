@@ -153,7 +153,9 @@ ranRows =
     ((8 ∷ 0 ∷ 0 ∷ 0 ∷ []) ++ (0 ∷ 0 ∷ 0 ∷ 16 ∷ 0 ∷ 0 ∷ 0 ∷ 20 ∷ []) ++ noTask 8) 0 0 0 0
     ∷ runs (file (sized 4 1 0 1 2 0) (BeginSteal 0 ∷ BeginSteal 1 ∷ BeginSteal 0 ∷ [])) 19 ((3 ∷ 0 ∷ 0 ∷ 0 ∷ []) ++ (0 ∷ 0 ∷ 5 ∷ []) ++ noTask 3) 0 0 0 0
     ∷ runs (file (sized 4 1 0 1 1 0) (replicate 256 Drain)) 1284 ((0 ∷ 1 ∷ 0 ∷ 0 ∷ []) ++ replicate 256 7 ++ noTask 256) 0 0 256 0
-    -- the largest number is neither the first nor the last
+    -- the largest number is the last
+    ∷ runs (file (sized 4 1 0 1 1 0) (BeginTake ∷ WorkerStep ∷ [])) 14 ((2 ∷ 0 ∷ 0 ∷ 0 ∷ []) ++ (0 ∷ 0 ∷ []) ++ noTask 2) 0 0 0 1
+    -- .. or neither the first nor the last
     ∷ runs (file (sized 4 2 0 1 1 0) (put 11 ++ drains ++ put 12 ++ drains ++ take ++ take ++ drains)) 114
     ((22 ∷ 0 ∷ 0 ∷ 0 ∷ []) ++ takenAndDrained ++ noTask 15 ++ (12 ∷ 0 ∷ 0 ∷ 0 ∷ []) ++ noTask 3 ++ (11 ∷ 0 ∷ 0 ∷ 0 ∷ []) ++ noTask 2) 2 0 0 2
     ∷ declines [] 0 2 0

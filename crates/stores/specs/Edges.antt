@@ -39,6 +39,15 @@ ranges =
     ∷ not (slotIndexInRange (index (negsuc 0)))
     ∷ slotIndexInRange (index (pos 0))
     ∷ not (storeInRange (Slot 1 (index (negsuc 0))))
+    ∷ storeInRange (Slot 1 (index (pos 0)))
+    ∷ storeInRange (Slot 1 (index (pos 2147483648)))
+    ∷ not (storeInRange (Slot 1 (index (pos 2147483649))))
+    ∷ pushInRange Nothing
+    ∷ pushInRange (One ATake (Tail (index (negsuc 0))))
+    ∷ not (pushInRange (One ATake (Tail (index (negsuc 1)))))
+    ∷ pushInRange (One APut (Slot 1 (index (pos 0))))
+    ∷ not (pushInRange (One APut (Slot 1 (index (negsuc 0)))))
+    ∷ pushInRange (One TheClient Client)
     ∷ spacingInRange (counting 4096 true)
     ∷ not (spacingInRange (counting 4097 true))
     ∷ []
@@ -120,6 +129,8 @@ lags =
     ∷ eqb (takeStores (index (pos 5)) (tails (pos 4 ∷ pos 5 ∷ pos 4 ∷ []))) 2
     ∷ eqb (takeStores (index (pos 0)) (tails (negsuc 0 ∷ []))) 1
     ∷ eqb (takeStores (index (negsuc 0)) (tails (pos 0 ∷ []))) 0
+    ∷ eqb (takeStores (index (pos 2147483648)) (tails (pos 2147483647 ∷ []))) 1
+    ∷ eqb (takeStores (index (pos 2147483647)) (tails (pos 2147483648 ∷ []))) 0
     ∷ eqb (takeStores (index (pos 5)) (clientStore ∷ slotStore (index (pos 4)) 9 ∷ [])) 0
     ∷ eqb (takeStores (index (pos 5)) (tails (pos 4 ∷ []) ++ clientStore ∷ slotStore (index (pos 2)) 9 ∷ tails (pos 3 ∷ []))) 2
     ∷ eqb (takeStores (index (pos 5)) (slotStore (index (pos 9)) 3 ∷ clientStore ∷ tails (pos 6 ∷ []))) 0
@@ -129,10 +140,11 @@ lags =
     ∷ scan (index (negsuc 1)) (holdingTails 1 (negsuc 0 ∷ negsuc 1 ∷ [])) .ranged
     ∷ not (scan (index (pos 5)) (holdingTails 2 (negsuc 1 ∷ pos 0 ∷ [])) .ranged)
     ∷ pushLowersTail (index (pos 5)) (One ATake (Tail (index (pos 4))))
+    ∷ pushLowersTail (index (pos 5)) (One APut (Tail (index (pos 4))))
     ∷ not (pushLowersTail (index (pos 5)) (One APut (Tail (index (pos 6)))))
+    ∷ not (pushLowersTail (index (pos 5)) (One ATake (Tail (index (pos 6)))))
+    ∷ not (pushLowersTail (index (pos 5)) (One APut (Slot 1 (index (pos 4)))))
     ∷ not (pushLowersTail (index (pos 5)) Nothing)
-    ∷ pushInRange Nothing
-    ∷ not (pushInRange (One ATake (Tail (index (negsuc 1)))))
     ∷ []
 
 -- stores count once a take has begun, and the first take is free; a put's count as the client's do, a take's do not

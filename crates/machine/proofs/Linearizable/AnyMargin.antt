@@ -19,7 +19,7 @@ use Rattle.machine.specs.Thief.{idleThief, thiefInRange}
 use Rattle.machine.specs.Machine.{fresh, takesPending, thiefCall}
 use Rattle.machine.specs.Worker.{workerInRange}
 use Rattle.machine.specs.InRange.{inRange}
-use Rattle.machine.specs.Obey.{machineAfter}
+use Rattle.machine.specs.Obey.{RunInRange, machineAfter}
 use Rattle.machine.specs.Linearizable.{ffThe}
 use Rattle.machine.proofs.Linearizable.Invariant.{Environment, InPlace, Sound, holds, outside, raised, raised-stolen, stolen}
 use Rattle.machine.proofs.Linearizable.Plain.{Plain}
@@ -95,7 +95,7 @@ invariant-ranged {w = w} v ranged short =
     each i false place = outside-ranged (thiefCall (w .machine) i) place
 
 -- every machine that a run of at most 4,096 entries reaches is in range
-pub run-in-range : (s : Sizes) (es : List Entry) → sizesInRange s ≡ true → length es ≤ 4096 → inRange (machineAfter (fresh s) es) ≡ true
+pub run-in-range : RunInRange
 run-in-range s es ranged short =
     let v = run-invariant s 0 (watchFresh ffThe s) es (fresh-plain s ranged) in
     ap inRange (sym (watched-machine (watchFresh ffThe s) es)) ∙ invariant-ranged v ranged (omega arith)
