@@ -22,7 +22,7 @@ pub use Rattle.stores.specs.declared.store_buffer.Push.the-variants.{Nothing, O
 pub use Rattle.stores.specs.declared.store_buffer.Maker.{Maker}
 pub use Rattle.stores.specs.declared.store_buffer.Maker.the-variants.{TheClient, APut, ATake}
 pub use Rattle.machine.specs.declared.machine.Done.{Done}
-pub use Rattle.machine.specs.declared.machine.Look.{Look}
+pub use Rattle.machine.specs.declared.look.Look.{Look}
 pub use Rattle.machine.specs.declared.machine.Machine.{Machine}
 pub use Rattle.machine.specs.declared.thief.Thief.{Thief}
 pub use Rattle.machine.specs.declared.thief.ThiefCall.{ThiefCall}

@@ -1,7 +1,7 @@
+use crate::look::hidden_if;
 use crate::machine::Done;
 use crate::machine::Machine;
 use crate::machine::Worker;
-use crate::machine::hidden_if;
 use crate::thief::Thief;
 use crate::thief::ThiefMove;
 use crate::thief::ThiefView;

@@ -1,7 +1,7 @@
 -- `more_if` meets its contract, by the test.
 use borrow.Author.Needs.{needs}
-use Rattle.machine.proofs.machine.more_if.Statement.{statement}
-use Rattle.machine.proofs.machine.more_if.Tie as tie
+use Rattle.machine.proofs.look.more_if.Statement.{statement}
+use Rattle.machine.proofs.look.more_if.Tie as tie
 
 returns : tie.Need-returns
 returns c = simp (c .if1 .taken)

@@ -1,7 +1,7 @@
 -- `Look::hidden_after` meets its contract, test by test.
 use borrow.Author.Needs.{needs}
-use Rattle.machine.proofs.machine.Look.hidden_after.Statement.{statement}
-use Rattle.machine.proofs.machine.Look.hidden_after.Tie as tie
+use Rattle.machine.proofs.look.Look.hidden_after.Statement.{statement}
+use Rattle.machine.proofs.look.Look.hidden_after.Tie as tie
 
 returns : tie.Need-returns
 returns c =

@@ -6,8 +6,8 @@ use native.Mathlib.Omega.{arith}
 use lib.Dec.{ltb}
 use borrow.Author.Tests.{ltb-false, ltb-true}
 use Rattle.terms.proofs.Laws.Tests.{and-left, and-right}
-use Rattle.machine.proofs.machine.fewer_if.Statement.{statement}
-use Rattle.machine.proofs.machine.fewer_if.Tie as tie
+use Rattle.machine.proofs.look.fewer_if.Statement.{statement}
+use Rattle.machine.proofs.look.fewer_if.Tie as tie
 
 none-fewer : (lowered : Bool) (takes : ℕ) → (lowered && ltb 0 takes) ≡ false → takes ≡ cond lowered (takes - 1) takes
 none-fewer true takes none = let h = ltb-false 0 takes none in omega arith
