@@ -3,7 +3,6 @@ use crate::machine::Done;
 use crate::machine::Machine;
 use crate::machine::Worker;
 use crate::thief::Thief;
-use crate::thief::ThiefMove;
 use crate::thief::ThiefView;
 use crate::thief::thief_move;
 use crate::worker::WorkerView;
