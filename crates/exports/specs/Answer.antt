@@ -54,12 +54,12 @@ runningAnswer (Ran t) = 0
 runningAnswer (running.Refused r) = refusalAnswer r
 
 -- four numbers in the order of the program's last line: three totals, and beside them how far memory lagged at most
-abbrev pub totalsPut : Summary → List ℕ → List ℕ
-totalsPut t bytes = wordsPut 0 (t .tally .given ∷ t .tally .aborts ∷ t .tally .waits ∷ t .hidden ∷ []) bytes
+abbrev pub summaryPut : Summary → List ℕ → List ℕ
+summaryPut t bytes = wordsPut 0 (t .tally .given ∷ t .tally .aborts ∷ t .tally .waits ∷ t .hidden ∷ []) bytes
 
 -- what the bytes that are lent for the totals hold afterwards, and what the trace buffer does
 abbrev pub totalsAfter : Running → List ℕ → List ℕ
-totalsAfter (Ran t) bytes = totalsPut t bytes
+totalsAfter (Ran t) bytes = summaryPut t bytes
 totalsAfter (running.Refused r) bytes = bytes
 
 abbrev pub traceInto : List ℕ → List ℕ → List ℕ → List ℕ

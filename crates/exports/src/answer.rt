@@ -1,5 +1,5 @@
 ghost use mathlib.Core.Path.{_≡_};
-ghost use Rattle.exports.specs.Answer.{likenessAnswer, refusalAnswer, sizesPut, totalsPut};
+ghost use Rattle.exports.specs.Answer.{likenessAnswer, refusalAnswer, sizesPut, summaryPut};
 use comparison::Likeness;
 use number::put_word;
 use schedule::Summary;
@@ -39,8 +39,8 @@ pub(crate) fn put_sizes(bytes: &mut [u8], sizes: Sizes)
 }
 
 // Puts three totals, and how far memory lagged at most, into lent memory.
-pub(crate) fn put_totals(bytes: &mut [u8], summary: Summary)
-    ensures { λ _. ⌜ now (bytes .exit) ≡ totalsPut summary (now (bytes .entry)) ⌝ }
+pub(crate) fn put_summary(bytes: &mut [u8], summary: Summary)
+    ensures { λ _. ⌜ now (bytes .exit) ≡ summaryPut summary (now (bytes .entry)) ⌝ }
 {
     put_word(bytes, 0, summary.tally.given);
     put_word(bytes, 4, summary.tally.aborts);

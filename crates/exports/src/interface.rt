@@ -9,7 +9,7 @@ ghost use Rattle.exports.specs.Answer.{likenessAnswer, readingAnswer, ru
 use crate::answer::answer_of;
 use crate::answer::likeness_of;
 use crate::answer::put_sizes;
-use crate::answer::put_totals;
+use crate::answer::put_summary;
 use comparison::alike;
 use schedule::Reading;
 use schedule::Running;
@@ -55,7 +55,7 @@ pub extern "C" fn rehearsal_run(file: &[u8], trace: &mut [u8], totals: &mut [u8]
     let running = run(file, trace);
     match running {
         Running::Ran(summary) => {
-            put_totals(totals, summary);
+            put_summary(totals, summary);
             0
         }
         Running::Refused(refusal) => answer_of(refusal),

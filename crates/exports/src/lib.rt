@@ -9,8 +9,8 @@
 // But for `rehearsal_needed_margin` each answers one number of 64 bits. Where a file is refused, its upper half is the number of
 // the refusal and its lower half the place. Otherwise the upper half is 0, and the lower half is the answer. What takes
 // more than that is written into memory that the caller lends, and a refusal leaves that memory as it was. Sizes and totals have
-// four bytes each, the least significant first. There are six sizes, and four totals: given, aborts, waits, and hidden, the largest number of
-// stores of take step 1 that were pending after an entry. Where fewer than their 24 or 16 bytes are lent, the file's own refusal comes
+// four bytes each, the least significant first. There are six sizes; three totals, given, aborts and waits, and beside them hidden, the largest
+// number of stores of take step 1 that were pending after an entry. Where fewer than their 24 or 16 bytes are lent, the file's own refusal comes
 // first, then 8 ROOM, and nothing is touched.
 //
 // In C:

@@ -14,14 +14,14 @@ ascii [] = []
 ascii (c ∷ s) = code c ∷ ascii s
 
 -- words with a space between each two, and an end behind the last
-abbrev pub ending : List ℕ → List (List ℕ) → List ℕ
-ending end [] = end
-ending end (word ∷ []) = word ++ end
-ending end (word ∷ next ∷ words) = word ++ (ascii " " ++ ending end (next ∷ words))
+abbrev pub joined : List ℕ → List (List ℕ) → List ℕ
+joined end [] = end
+joined end (word ∷ []) = word ++ end
+joined end (word ∷ next ∷ words) = word ++ (ascii " " ++ joined end (next ∷ words))
 
 -- a line of words
 abbrev pub line : List (List ℕ) → List ℕ
-line words = ending (ascii "\n") words
+line words = joined (ascii "\n") words
 
 -- ── Numbers ─────────────────────────────────────────────────────────────────────────────────────────────────────────────────
 

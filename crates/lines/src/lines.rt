@@ -7,7 +7,7 @@ ghost use Rattle.schedule.specs.Format.{wordsIn};
 ghost use Rattle.schedule.specs.Run.{outcomesFrom, summaryFrom};
 ghost use Rattle.lines.specs.FromTrace.{linesFromTrace, threeNumbers};
 ghost use Rattle.lines.specs.Lines.{lastLine, linesOf, marginWord, refusalLine, runLines, sizesLine, totalsWords};
-ghost use Rattle.lines.specs.Text.{ending, line};
+ghost use Rattle.lines.specs.Text.{joined, line};
 ghost use Rattle.terms.specs.Refusal.{placeOf};
 use crate::text::put_bytes;
 use crate::text::put_number;
@@ -99,8 +99,8 @@ fn put_entries(text: &mut [u8], from: usize, entries: usize, trace: &[u8]) -> us
 // Puts the three totals, and a byte behind them. Answers where they end.
 fn put_totals(text: &mut [u8], at: usize, tally: Tally, behind: u8) -> usize
     requires { ⌜ at + 52 ≤ length (now text) ⌝ }
-    ensures { λ r. ⌜ (r ≡ at + length (ending (behind ∷ []) (totalsWords tally))) × (r ≤ at + 52) ⌝ }
-    ensures { λ _. ⌜ now (text .exit) ≡ overwritten at (ending (behind ∷ []) (totalsWords tally)) (now (text .entry)) ⌝ }
+    ensures { λ r. ⌜ (r ≡ at + length (joined (behind ∷ []) (totalsWords tally))) × (r ≤ at + 52) ⌝ }
+    ensures { λ _. ⌜ now (text .exit) ≡ overwritten at (joined (behind ∷ []) (totalsWords tally)) (now (text .entry)) ⌝ }
 {
     let mut end = put_bytes(text, at, b"given ");
     end = put_number(text, end, tally.given, SPACE);

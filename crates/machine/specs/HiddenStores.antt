@@ -33,7 +33,7 @@ stealHidesNothing = hiding (fresh (sized 4 2 0 2 1 0)) (filled 2 ++ takes 2 ++ t
 abbrev pub belowThePut : Row
 belowThePut = hiding (fresh (sized 4 3 0 3 1 0)) (puts 1 ++ takes 1 ++ drains 3) (zeros 4 ++ 0 ∷ 1 ∷ 1 ∷ 1 ∷ 1 ∷ 1 ∷ 0 ∷ [])
 
--- a put between two takes, all pending: each take's store is counted, the put's in between is not, though it is at memory's tail
+-- a put between two takes, all pending: each take's store is counted, the put's in between is not: it is above the take's
 abbrev pub putBetween : Row
 putBetween =
     hiding (fresh (sized 4 4 0 4 1 0)) (filled 1 ++ takes 1 ++ puts 2 ++ takes 2 ++ drains 4)

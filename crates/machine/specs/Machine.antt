@@ -91,7 +91,7 @@ look m = record { ranged = inRange m; tail = workerTail m; hidden = hidden m }
 
 -- ── What an operation hands back ────────────────────────────────────────────────────────────────────────────────────────────
 
--- any number; for the code alone
+-- with any number; `done` has the right one
 abbrev pub handing : Outcome → ℕ → Machine → Done
 handing o n m = record { machine = m; outcome = o; hidden = n }
 

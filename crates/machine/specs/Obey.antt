@@ -57,14 +57,17 @@ abbrev pub machineAfter : Machine → List Entry → Machine
 machineAfter m [] = m
 machineAfter m (e ∷ es) = machineAfter (obey m e .machine) es
 
+-- a part of what each of them hands back
+abbrev pub eachOf : {A : Type 0} → (Done → A) → Machine → List Entry → List A
+eachOf part m [] = []
+eachOf part m (e ∷ es) = part (obey m e) ∷ eachOf part (obey m e .machine) es
+
 abbrev pub outcomesOf : Machine → List Entry → List Outcome
-outcomesOf m [] = []
-outcomesOf m (e ∷ es) = obey m e .outcome ∷ outcomesOf (obey m e .machine) es
+outcomesOf m es = eachOf (λ d. d .outcome) m es
 
 -- the number that each of them hands on: how many stores of take step 1 are pending after it
 abbrev pub hiddenOf : Machine → List Entry → List ℕ
-hiddenOf m [] = []
-hiddenOf m (e ∷ es) = obey m e .hidden ∷ hiddenOf (obey m e .machine) es
+hiddenOf m es = eachOf (λ d. d .hidden) m es
 
 -- A run of at most 4,096 entries never leads out of range, whichever margin is set. Proved in `proofs/Linearizable/AnyMargin.antt`.
 abbrev pub RunInRange : Type 0

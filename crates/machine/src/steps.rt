@@ -47,7 +47,7 @@ impl Machine {
         let seen = self.look();
         let tail = seen.tail;
         let mut outcome = Outcome::Wait;
-        let mut hidden = 0;
+        let mut hidden = seen.hidden;
         if seen.ranged {
             let step = worker_move(self.worker_view(tail));
             let buffer = self.buffer;

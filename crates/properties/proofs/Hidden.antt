@@ -1,5 +1,5 @@
 -- How far memory lags behind the worker: never more than the needed margin, by the law on pending take stores of `machine`; and the sizes of the table reach it.
-use mathlib.Core.Path.{_≡_, refl, ap, _∙_}
+use mathlib.Core.Path.{_≡_, refl, _∙_}
 use mathlib.Core.Bool.{Bool, true, false}
 use mathlib.Core.List.{List, [], _∷_}
 use Prim.Native.Nat.{ℕ, zero, suc, _≤_, _<_}
@@ -14,14 +14,10 @@ use Rattle.machine.specs.InRange.{inRange}
 use Rattle.machine.specs.Machine.{fresh, hidden}
 use Rattle.machine.specs.Obey.{hiddenOf, machineAfter, obey}
 use Rattle.machine.proofs.Laws.Hidden.{hidden-known, hidden-pending}
-use Rattle.machine.proofs.Laws.Obey.{hands-on-hidden}
+use Rattle.machine.proofs.Laws.Obey.{hands-on-hidden, length-eachOf}
 use Rattle.machine.proofs.Linearizable.AnyMargin.{run-in-range, run-take-stores}
 use Rattle.properties.specs.Types.{Entry, Machine}
 use Rattle.properties.specs.Hidden.{HiddenIsPending, HiddenWithinNeeded, reaches, reaching}
-
-length-hiddenOf : (m : Machine) (es : List Entry) → length (hiddenOf m es) ≡ length es
-length-hiddenOf m [] = refl
-length-hiddenOf m (e ∷ es) = ap suc (length-hiddenOf (obey m e .machine) es)
 
 -- the number that an entry hands on is that of the machine which all entries up to it leave
 hidden-there : (m : Machine) (es : List Entry) (at : ℕ) → at < length es → getD (hiddenOf m es) at 0 ≡ hidden (machineAfter m (take (suc at) es))
@@ -37,7 +33,7 @@ hidden-within-needed s es ranged at = go (ltb at (length es)) refl
         let then = machineAfter (fresh s) (take (suc at) es) in
         omega (arith, hidden-there (fresh s) es at (ltb-true at (length es) p), hidden-pending then, run-take-stores s (take (suc at) es) ranged)
     go false p =
-        let past = List·getD-eq-default (hiddenOf (fresh s) es) 0 {n = at} (omega (arith, ltb-false at (length es) p, length-hiddenOf (fresh s) es)) in
+        let past = List·getD-eq-default (hiddenOf (fresh s) es) 0 {n = at} (omega (arith, ltb-false at (length es) p, length-eachOf (λ d. d .hidden) (fresh s) es)) in
         omega (arith, past)
 
 pub hidden-is-pending : HiddenIsPending

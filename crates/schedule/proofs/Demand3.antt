@@ -18,19 +18,17 @@ use Rattle.machine.specs.Machine.{fresh}
 use Rattle.machine.specs.Obey.{outcomesOf}
 use Rattle.machine.proofs.Linearizable.Theorem.{demand3}
 use Rattle.machine.proofs.Linearizable.Watched.{events-outcomes}
-use Rattle.schedule.specs.Types.{Accepted, Entry, Ran, Reading, Sizes, Summary}
-use Rattle.schedule.specs.declared.reader.Reading.the-variants as reading
+use Rattle.schedule.specs.Types.{Entry, Sizes}
 use Rattle.schedule.specs.Demand3.{RunLinearizes, answerIn, answersIn, plainAnswers}
 use Rattle.properties.proofs.ExactlyOnce.{none-lost-or-given-twice}
 use Rattle.schedule.specs.Format.{allBelow, entriesIn, sizesIn}
 use Rattle.number.specs.Number.{overwritten}
-use Rattle.schedule.specs.Reader.{readFile}
-use Rattle.schedule.specs.Run.{outcomesIn, runFile, runningOf, scheduleIn, traceAfter, traceIf}
+use Rattle.schedule.specs.Run.{outcomesIn, runFile, scheduleIn, traceAfter, traceIf}
 use Rattle.schedule.specs.Trace.{Line, lineOf, traceOf}
 use Rattle.schedule.proofs.Laws.Check.{ranges-passed, ranges-sizes}
 use Rattle.schedule.proofs.Laws.Reader.{accepted-readable}
 use Rattle.schedule.proofs.Laws.Trace.{answersIn-written}
-use Rattle.schedule.proofs.Laws.Run.{file-values-fit, length-outcomesOf, not-both-run, schedule-length}
+use Rattle.schedule.proofs.Laws.Run.{file-values-fit, length-outcomesOf, ran-accepted, schedule-length}
 
 -- ── Answers ─────────────────────────────────────────────────────────────────────────────────────────────────────────────────
 
@@ -58,14 +56,6 @@ answers-plain s es claim =
     ∙ map-map (map lineOf) (λ v. answersTo (v .call)) (answering h)
 
 -- ── A file that was run ─────────────────────────────────────────────────────────────────────────────────────────────────────
-
--- what was run was accepted
-pub ran-accepted : (file : List ℕ) (room : ℕ) (t : Summary) → runFile file room ≡ Ran t → readFile file ≡ Accepted (sizesIn file) (entriesIn file)
-ran-accepted file room t e = go (readFile file) refl e
-  where
-    go : (r : Reading) → readFile file ≡ r → runningOf file room r ≡ Ran t → readFile file ≡ Accepted (sizesIn file) (entriesIn file)
-    go (Accepted s n) read ran = let known = accepted-readable file s n read in read ∙ (λ i. Accepted (known .0 i) (known .1 .0 i))
-    go (reading.Refused r) read ran = absurd (not-both-run ran)
 
 pub run-linearizes : (file trace : List ℕ) → allBelow 256 file ≡ true → RunLinearizes file (traceAfter file trace) (runFile file (length trace))
 run-linearizes file trace bytes t ran margin =

@@ -9,14 +9,13 @@ use Rattle.machine.specs.Machine.{fresh}
 use Rattle.machine.specs.Obey.{hiddenOf}
 use Rattle.properties.proofs.Hidden.{hidden-within-needed}
 use Rattle.schedule.specs.Format.{entriesIn, sizesIn}
-use Rattle.schedule.specs.Hidden.{EveryFileLags, RunWithinNeeded}
+use Rattle.schedule.specs.Hidden.{LagBounded, RunWithinNeeded}
 use Rattle.schedule.specs.Run.{runFile, scheduleIn}
-use Rattle.schedule.proofs.Demand3.{ran-accepted}
 use Rattle.schedule.proofs.Laws.Reader.{accepted-readable}
-use Rattle.schedule.proofs.Laws.Run.{parts-obeyed, ran-summary}
+use Rattle.schedule.proofs.Laws.Run.{parts-obeyed, ran-accepted, ran-summary}
 
-pub every-file-lags : EveryFileLags
-every-file-lags file s n accepted =
+pub lag-bounded : LagBounded
+lag-bounded file s n accepted =
     let numbers = hiddenOf (fresh s) (scheduleIn file) in
     -- the sizes that were read are those of the file, by which it is run
     let same = ap (λ t. largest (hiddenOf (fresh t) (scheduleIn file))) (accepted-readable file s n accepted .0) in
@@ -28,4 +27,4 @@ every-file-lags file s n accepted =
 pub run-within-needed : (file : List ℕ) (room : ℕ) → RunWithinNeeded file (runFile file room)
 run-within-needed file room t ran =
     let s = sizesIn file in
-    subst (λ u. u .hidden ≤ neededMargin (s .buffer) (s .spacing)) (ran-summary file room t ran) (every-file-lags file s (entriesIn file) (ran-accepted file room t ran) .within-needed)
+    subst (λ u. u .hidden ≤ neededMargin (s .buffer) (s .spacing)) (ran-summary file room t ran) (lag-bounded file s (entriesIn file) (ran-accepted file room t ran) .within-needed)

@@ -18,8 +18,8 @@ pub record LagOf (file : List ℕ) (s : Sizes) : Type 0 where
   pub within-needed : summaryIn file .hidden ≤ neededMargin (s .buffer) (s .spacing)
 
 -- so it is of every accepted file
-abbrev pub EveryFileLags : Type 0
-EveryFileLags = (file : List ℕ) (s : Sizes) (n : ℕ) → readFile file ≡ Accepted s n → LagOf file s
+abbrev pub LagBounded : Type 0
+LagBounded = (file : List ℕ) (s : Sizes) (n : ℕ) → readFile file ≡ Accepted s n → LagOf file s
 
 -- and `run` promises of its answer that it is within the needed margin
 abbrev pub RunWithinNeeded : List ℕ → Running → Type 0

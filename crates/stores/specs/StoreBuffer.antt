@@ -123,7 +123,7 @@ abbrev pub pushLowersTail : Index → Push → Bool
 pushLowersTail t Nothing = false
 pushLowersTail t (One maker kind) = lowersTail t kind
 
--- What finds the worker's newest tail also tells that number, and whether every pending store is in range: one look through them, from memory's tail on.
+-- What finds the worker's newest tail also tells that number, and whether every pending store is in range: one pass over them, from memory's tail on.
 abbrev pub scan : Index → StoreBuffer → Scan
 scan t b = record { ranged = all (λ s. storeInRange (s .kind)) (pending b); tail = newestTail t b; takes = takeStores t (pending b) }
 

@@ -4,7 +4,7 @@
 //
 // - `index`: a position of the queue, a signed number that never wraps; the slot in which it lies; its neighbours and distances;
 // - `lock`: the lock, and who holds it;
-// - `store_buffer`: a store, who makes it, what it leaves in memory, and the stores that have not reached memory, with what one look through them finds;
+// - `store_buffer`: a store, who makes it, what it leaves in memory, and the stores that have not reached memory, with what one pass over them finds;
 // - `spacing`: how far takes are kept apart, and whose stores do so.
 mod index;
 mod lock;

@@ -59,7 +59,7 @@ pub struct StoreBuffer {
     pub count: usize,
 }
 
-// What one look through the pending stores finds.
+// What one pass over the pending stores finds.
 pub struct Scan {
     // Whether each is in range.
     pub ranged: bool,
@@ -182,7 +182,7 @@ impl Push {
 }
 
 impl StoreBuffer {
-    // One look through the pending stores, from memory's tail on.
+    // One pass over the pending stores, from memory's tail on.
     pub fn scan(self, tail: Index) -> Scan
         ensures { λ r. ⌜ r ≡ scan tail self ⌝ }
     {

@@ -62,7 +62,7 @@ pub fn read(file: &[u8], sizes: &mut [u8]) -> Answer {
     Answer::unpack(answer)
 }
 
-/// Runs a file; the trace and the four totals go into the lent memory.
+/// Runs a file; the trace and the three totals and hidden go into the lent memory.
 pub fn run(file: &[u8], trace: &mut [u8], totals: &mut [u8]) -> Answer {
     // SAFETY: `file` is only read; `trace` and `totals` are two exclusive borrows,
     // so they don't overlap; see the module's reasons.

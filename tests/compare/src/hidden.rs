@@ -79,8 +79,8 @@ pub fn hold(machine: &Image, all: &[Made], tally: &mut Tally) -> Verdict {
     let case = Case::new(&image, 0);
     // A worker with a call begins none, and one without has no step to make: the
     // machine as it was is told of by one of them.
-    let before = all.iter().find(|made| made.is_refused());
-    let before = before.map_or(0, |made| made.hidden);
+    let refused = all.iter().find(|made| made.is_refused());
+    let before = refused.expect("some kind of step is refused").hidden;
     for made in all {
         let Made { kind, hidden, .. } = *made;
         let what = format!("{hidden} takes hidden after kind {kind}, {before} before, possible");

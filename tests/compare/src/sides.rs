@@ -4,7 +4,7 @@ use reference::{Refusal, Sizes, Totals};
 
 use crate::ffi;
 
-/// Bytes that must be lent for the six sizes, and for the four totals: given,
+/// Bytes that must be lent for the six sizes, and for the three totals and hidden: given,
 /// aborts, waits and hidden.
 pub const SIZES_ROOM: usize = 24;
 pub const TOTALS_ROOM: usize = 16;

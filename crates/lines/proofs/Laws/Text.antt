@@ -15,7 +15,7 @@ use Rattle.terms.specs.Lists.{all, concatMap, range}
 use Rattle.terms.proofs.Laws.Sums.{concatMap-append, range-suc}
 use Rattle.number.specs.Number.{overwritten}
 use Rattle.number.proofs.Laws.Overwritten.{overwritten-behind, overwritten-nothing}
-use Rattle.lines.specs.Text.{ascii, ending, line, units}
+use Rattle.lines.specs.Text.{ascii, joined, line, units}
 
 -- A piece was put at a place: what is there afterwards, and where the piece ends.
 pub record Put (at : ℕ) (new before after : List ℕ) (end : ℕ) : Type 0 where
@@ -51,16 +51,16 @@ four-words a b c d = simp append-assoc
 
 pub six-words : (end a b c d e f : List ℕ)
     → (a ++ ascii " ") ++ (b ++ ascii " ") ++ (c ++ ascii " ") ++ (d ++ ascii " ") ++ (e ++ ascii " ") ++ (f ++ end)
-    ≡ ending end (a ∷ b ∷ c ∷ d ∷ e ∷ f ∷ [])
+    ≡ joined end (a ∷ b ∷ c ∷ d ∷ e ∷ f ∷ [])
 six-words end a b c d e f = simp append-assoc
 
 -- words with a space behind the last, and a line behind them, are a line
-pub ending-more : (a : List ℕ) (l : List (List ℕ)) (b : List ℕ) (m : List (List ℕ))
-    → ending (ascii " ") (a ∷ l) ++ line (b ∷ m) ≡ line ((a ∷ l) ++ (b ∷ m))
-ending-more a [] b m = append-assoc a (ascii " ") (line (b ∷ m))
-ending-more a (c ∷ l) b m =
-    append-assoc a (ascii " " ++ ending (ascii " ") (c ∷ l)) (line (b ∷ m))
-    ∙ ap (λ rest. a ++ (ascii " " ++ rest)) (ending-more c l b m)
+pub joined-more : (a : List ℕ) (l : List (List ℕ)) (b : List ℕ) (m : List (List ℕ))
+    → joined (ascii " ") (a ∷ l) ++ line (b ∷ m) ≡ line ((a ∷ l) ++ (b ∷ m))
+joined-more a [] b m = append-assoc a (ascii " ") (line (b ∷ m))
+joined-more a (c ∷ l) b m =
+    append-assoc a (ascii " " ++ joined (ascii " ") (c ∷ l)) (line (b ∷ m))
+    ∙ ap (λ rest. a ++ (ascii " " ++ rest)) (joined-more c l b m)
 
 pub seven-words : (a b c d e f g : List ℕ)
     → (a ++ ascii " ") ++ (b ++ ascii " ") ++ (c ++ ascii " ") ++ (d ++ ascii " ") ++ (e ++ ascii " ") ++ (f ++ ascii " ") ++ (g ++ ascii "\n")

@@ -18,7 +18,7 @@ use Rattle.number.specs.Number.{littleEndian, overwritten}
 use Rattle.schedule.specs.Run.{entriesOf, tracePut}
 use Rattle.schedule.specs.Totals.{summaryOf, tallyOf}
 use Rattle.schedule.specs.Trace.{traceFits, traceOf}
-use Rattle.schedule.proofs.Laws.Run.{entriesUpTo, entriesUpTo-more, fits-room, hiddenOf-more, length-entriesUpTo, length-outcomesOf, machineAfter-more, outcomesOf-more, tallyOf-more}
+use Rattle.schedule.proofs.Laws.Run.{entriesUpTo, eachOf-more, entriesUpTo-more, fits-room, length-entriesUpTo, length-outcomesOf, machineAfter-more, tallyOf-more}
 use Rattle.schedule.proofs.Laws.Trace.{traceSoFar, traceSoFar-all, traceSoFar-more, traceSoFar-none}
 
 -- the outcomes of the first entries
@@ -73,7 +73,7 @@ module _ (m : Machine) (s : Sizes) (kinds operands l : List ℕ) where
       let by-then : done ≡ obey (machineAfter m es) (entryToObey (entryAt s kinds operands at)) = by-obeying ∙ (λ i. obey (so-far .machine-then i) (meant i)) in
       let o = obey (machineAfter m es) (entryToObey (entryAt s kinds operands at)) .outcome in
       let entries-more = entriesUpTo-more s kinds operands at in
-      let outcomes-more : os ++ (o ∷ []) ≡ outcomesUpTo m s kinds operands (at + 1) = sym (ap (outcomesOf m) entries-more ∙ outcomesOf-more m es _) in
+      let outcomes-more : os ++ (o ∷ []) ≡ outcomesUpTo m s kinds operands (at + 1) = sym (ap (outcomesOf m) entries-more ∙ eachOf-more (λ d. d .outcome) m es _) in
       let count : at ≡ length os = sym (length-outcomesUpTo at) in
       let put-here : stored os o trace after (traceFits n (length l)) =
       put
@@ -81,7 +81,7 @@ module _ (m : Machine) (s : Sizes) (kinds operands l : List ℕ) where
       record {
         machine-then = ap (λ d. d .machine) by-then ∙ sym (ap (machineAfter m) entries-more ∙ machineAfter-more m es _);
         tally-then = by-counting ∙ (λ i. counted (so-far .tally-then i) (by-then i .outcome)) ∙ sym (tallyOf-more os o) ∙ ap tallyOf outcomes-more;
-        hidden-then = by-comparing ∙ (λ i. max (so-far .hidden-then i) (by-then i .hidden)) ∙ sym (ap (λ es. largest (hiddenOf m es)) entries-more ∙ ap largest (hiddenOf-more m es _) ∙ largest-more (hiddenOf m es) _);
+        hidden-then = by-comparing ∙ (λ i. max (so-far .hidden-then i) (by-then i .hidden)) ∙ sym (ap (λ es. largest (hiddenOf m es)) entries-more ∙ ap largest (eachOf-more (λ d. d .hidden) m es _) ∙ largest-more (hiddenOf m es) _);
         trace-then =
             trace-more os o (omega arith) trace after (traceFits n (length l)) refl (so-far .trace-then) put-here
             ∙ ap (λ os. cond (traceFits n (length l)) (traceSoFar n os l) l) outcomes-more;

@@ -2,7 +2,7 @@
 use mathlib.Core.Path.{_≡_, refl, ap, sym, _∙_}
 use mathlib.Core.Bool.{Bool, true, false, _&&_}
 use mathlib.Core.List.{List, [], _∷_, _++_, map, map-append}
-use Prim.Native.Nat.{ℕ, suc, _+_, _%_, _/_, _≤_, _<_}
+use Prim.Native.Nat.{ℕ, _+_, _%_, _/_, _≤_, _<_}
 use native.Mathlib.Nat.{mod-eq-of-lt, mod-lt, zero-add}
 use native.Mathlib.Omega.{arith}
 use lib.Dec.{leb, lit<, ltb}
@@ -17,7 +17,9 @@ use Rattle.terms.specs.Tally.{counted, noneCounted}
 use Rattle.terms.proofs.Laws.Tests.{and-left, and-right, by-test, either}
 use Rattle.terms.specs.Lists.{all, range}
 use Rattle.machine.specs.Machine.{fresh}
-use Rattle.machine.specs.Obey.{hiddenOf, machineAfter, obey, outcomesOf}
+use Rattle.machine.specs.declared.machine.Done.{Done}
+use Rattle.machine.specs.Obey.{eachOf, machineAfter, obey, outcomesOf}
+use Rattle.machine.proofs.Laws.Obey.{length-eachOf}
 use Rattle.properties.specs.Renumbering.{renumberEntry, renumberOutcome}
 use Rattle.terms.proofs.Laws.Lists.{all-getD}
 use Rattle.terms.proofs.Laws.Sums.{length-range, range-suc}
@@ -46,20 +48,14 @@ pub machineAfter-more : (m : Machine) (es : List Entry) (e : Entry) → machineA
 machineAfter-more m [] e = refl
 machineAfter-more m (d ∷ es) e = machineAfter-more (obey m d .machine) es e
 
-pub outcomesOf-more : (m : Machine) (es : List Entry) (e : Entry)
-    → outcomesOf m (es ++ (e ∷ [])) ≡ outcomesOf m es ++ (obey (machineAfter m es) e .outcome ∷ [])
-outcomesOf-more m [] e = refl
-outcomesOf-more m (d ∷ es) e = ap (λ l. obey m d .outcome ∷ l) (outcomesOf-more (obey m d .machine) es e)
-
-pub hiddenOf-more : (m : Machine) (es : List Entry) (e : Entry)
-    → hiddenOf m (es ++ (e ∷ [])) ≡ hiddenOf m es ++ (obey (machineAfter m es) e .hidden ∷ [])
-hiddenOf-more m [] e = refl
-hiddenOf-more m (d ∷ es) e = ap (λ l. obey m d .hidden ∷ l) (hiddenOf-more (obey m d .machine) es e)
+pub eachOf-more : {A : Type 0} (part : Done → A) (m : Machine) (es : List Entry) (e : Entry)
+    → eachOf part m (es ++ (e ∷ [])) ≡ eachOf part m es ++ (part (obey (machineAfter m es) e) ∷ [])
+eachOf-more part m [] e = refl
+eachOf-more part m (d ∷ es) e = ap (λ l. part (obey m d) ∷ l) (eachOf-more part (obey m d .machine) es e)
 
 -- there are as many outcomes as entries
 pub length-outcomesOf : (m : Machine) (es : List Entry) → length (outcomesOf m es) ≡ length es
-length-outcomesOf m [] = refl
-length-outcomesOf m (e ∷ es) = ap suc (length-outcomesOf (obey m e .machine) es)
+length-outcomesOf m es = length-eachOf (λ d. d .outcome) m es
 
 pub tallyOf-more : (os : List Outcome) (o : Outcome) → tallyOf (os ++ (o ∷ [])) ≡ counted (tallyOf os) o
 tallyOf-more os o = from noneCounted os
@@ -273,7 +269,15 @@ module _ (file : List ℕ) (room : ℕ) where
     pub run-with-room : traceLength n ≤ room → runFile file room ≡ Ran (summaryIn file)
     run-with-room fits = ap (runningOf file room) told ∙ by-test (running.Refused Room) (Ran (summaryIn file)) (le-ltb room (traceLength n) fits)
 
--- what is told of a run is told of the file's entries
+-- what was run was accepted
+pub ran-accepted : (file : List ℕ) (room : ℕ) (t : Summary) → runFile file room ≡ Ran t → readFile file ≡ Accepted (sizesIn file) (entriesIn file)
+ran-accepted file room t e = go (readFile file) refl e
+  where
+    go : (r : Reading) → readFile file ≡ r → runningOf file room r ≡ Ran t → readFile file ≡ Accepted (sizesIn file) (entriesIn file)
+    go (Accepted s n) read ran = let known = accepted-readable file s n read in read ∙ (λ i. Accepted (known .0 i) (known .1 .0 i))
+    go (reading.Refused r) read ran = absurd (not-both-run ran)
+
+-- .. and what is told of it is told of the file's entries
 pub ran-summary : (file : List ℕ) (room : ℕ) (t : Summary) → runFile file room ≡ Ran t → summaryIn file ≡ t
 ran-summary file room t e = go (readFile file) e
   where

@@ -146,7 +146,7 @@ module _ (b : StoreBuffer) (some : 0 < b .count) (within : b .count ≤ length (
       ap (λ v. newestInSlot n k v (dropOldest b)) (slotsAfter-slotAfter n k slots (oldest b .kind) there)
       ∙ dropOldest-foldl (λ u s. slotAfter n k u (s .kind)) (getD slots k 0) b some within
 
--- ── What one look finds ─────────────────────────────────────────────────────────────────────────────────────────────────────
+-- ── What one pass finds ─────────────────────────────────────────────────────────────────────────────────────────────────────
 
 -- take stores, with one store more behind them
 takeStores-snoc : (t : Index) (l : List Store) (s : Store)

@@ -35,7 +35,7 @@ returns-2 c =
     let ran = opened .before .before .before .before in
     let a = ran .before .before .before .before .before .before .args in
     let told = ran-into ran (opened .running .given .1) in
-    (sym (ap runningAnswer (told .0)), (ran .run .ensures .1 .0 ∙ sym (told .1), put .put-totals .ensures ∙ sym (ap (λ one. totalsAfter one (a .totals .now)) (told .0))))
+    (sym (ap runningAnswer (told .0)), (ran .run .ensures .1 .0 ∙ sym (told .1), put .put-summary .ensures ∙ sym (ap (λ one. totalsAfter one (a .totals .now)) (told .0))))
 
 returns-3 : tie.Need-returns-3
 returns-3 c =

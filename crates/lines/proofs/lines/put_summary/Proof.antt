@@ -5,8 +5,8 @@ use native.Mathlib.Omega.{arith}
 use lib.ListN.{drop}
 use borrow.Author.Needs.{needs}
 use Rattle.lines.specs.Lines.{totalsWords}
-use Rattle.lines.specs.Text.{ascii, decimal, ending}
-use Rattle.lines.proofs.Laws.Text.{Put, ending-more, put-as, put-more}
+use Rattle.lines.specs.Text.{ascii, decimal, joined}
+use Rattle.lines.proofs.Laws.Text.{Put, joined-more, put-as, put-more}
 use Rattle.lines.proofs.lines.put_summary.Statement.{statement}
 use Rattle.lines.proofs.lines.put_summary.Tie as tie
 
@@ -18,12 +18,12 @@ returns c =
     let a = first .before .before .before .before .args in
     let text = a .text .now in
     let t = a .summary .tally in
-    let totals = ending (ascii " ") (totalsWords t) in
+    let totals = joined (ascii " ") (totalsWords t) in
     let hidden = decimal (a .summary .hidden) in
     let one : Put (a .at) totals text _ _ = record { there = first .put-totals .ensures .1; ends = first .put-totals .ensures .0 .0 } in
     let two = put-more (a .at) totals (ascii "hidden ") text (omega arith) one (second .put-bytes .ensures .0) (second .put-bytes .ensures .1) in
     let three = put-more (a .at) (totals ++ ascii "hidden ") (hidden ++ ascii "\n") text (omega arith) two (third .put-number .ensures .0 .0) (third .put-number .ensures .1) in
-    let words = append-assoc totals (ascii "hidden ") (hidden ++ ascii "\n") ∙ ending-more (ascii "given") (drop 1 (totalsWords t)) (ascii "hidden") (hidden ∷ []) in
+    let words = append-assoc totals (ascii "hidden ") (hidden ++ ascii "\n") ∙ joined-more (ascii "given") (drop 1 (totalsWords t)) (ascii "hidden") (hidden ∷ []) in
     let all = put-as (a .at) text words three in
     ((all .ends, omega arith), all .there)
 

@@ -3,7 +3,7 @@
 //! through single functions of both, until something differs.
 //!
 //! Exit status 0: everything agrees and every outcome, refusal, kind of share
-//! sheet and way of hiding takes came up; 1: something differs or never came up;
+//! sheet and row on hidden takes came up; 1: something differs or never came up;
 //! 2: the command line is wrong.
 
 mod options;

@@ -1,5 +1,5 @@
 -- `Machine::worker_step` meets its contract: it does what the move says.
-use mathlib.Core.Path.{_≡_, ap, sym, _∙_}
+use mathlib.Core.Path.{_≡_, refl, ap, sym, _∙_}
 use mathlib.Core.Bool.{true, _&&_}
 use lib.ListN.{length, length-map}
 use borrow.Author.Needs.{needs}
@@ -15,7 +15,7 @@ use Rattle.machine.specs.InRange.{inRange}
 use Rattle.machine.specs.Machine.{handing}
 use Rattle.machine.specs.Perform.{performWorker, workerView}
 use Rattle.machine.proofs.Laws.InRange.{bounds, worker-tail-in-range}
-use Rattle.machine.proofs.Laws.Hidden.{hidden-most, hidden-out, worker-hidden}
+use Rattle.machine.proofs.Laws.Hidden.{hidden-most, told, worker-hidden}
 use Rattle.machine.proofs.Laws.Obey.{obey-by}
 use Rattle.machine.proofs.machine.Machine.worker_step.Statement.{statement}
 use Rattle.machine.proofs.machine.Machine.worker_step.Tie as tie
@@ -65,8 +65,8 @@ returns c =
 returns-2 : tie.Need-returns-2
 returns-2 c =
     let m = c .before .before .before .args .self in
-    let out = known (ap (λ s. s .ranged) (c .before .before .look .ensures)) (c .if1 .left) in
-    ap (λ h. handing Wait h m) (sym (hidden-out m out)) ∙ sym (obey-by m WorkerStep (ap (λ t. t && true) out))
+    let found = c .before .before .look .ensures in
+    told m m Wait found refl refl ∙ sym (obey-by m WorkerStep (ap (λ t. t && true) (known (ap (λ s. s .ranged) found) (c .if1 .left))))
 
 pub worker-step-spec : {M : Type 1} → statement M
 worker-step-spec =

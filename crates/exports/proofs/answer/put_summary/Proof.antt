@@ -1,9 +1,9 @@
--- `put_totals` meets its contract: each call puts one number into what the call before it left.
+-- `put_summary` meets its contract: each call puts one number into what the call before it left.
 use mathlib.Core.Path.{ap, _∙_}
 use borrow.Author.Needs.{needs}
 use Rattle.number.specs.Number.{wordPut}
-use Rattle.exports.proofs.answer.put_totals.Statement.{statement}
-use Rattle.exports.proofs.answer.put_totals.Tie as tie
+use Rattle.exports.proofs.answer.put_summary.Statement.{statement}
+use Rattle.exports.proofs.answer.put_summary.Tie as tie
 
 returns : tie.Need-returns
 returns c =
@@ -16,5 +16,5 @@ returns c =
     ∙ ap (wordPut 12 (t .hidden))
     (third .put-word3 .ensures ∙ ap (wordPut 8 (t .tally .waits)) (second .put-word2 .ensures ∙ ap (wordPut 4 (t .tally .aborts)) (first .put-word .ensures)))
 
-pub put-totals-spec : {M : Type 1} → statement M
-put-totals-spec = tie.close (tie.spec (λ c κs. search needs) (λ c κs. search needs) (λ c κs. search needs) (λ c κs. search needs) (λ c. search needs) returns)
+pub put-summary-spec : {M : Type 1} → statement M
+put-summary-spec = tie.close (tie.spec (λ c κs. search needs) (λ c κs. search needs) (λ c κs. search needs) (λ c κs. search needs) (λ c. search needs) returns)
