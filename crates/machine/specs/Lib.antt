@@ -13,6 +13,7 @@
 -- a step on the machine                  Perform
 -- every other entry                      Entries
 -- an entry, and the order of 5 to 7      Obey
+-- an entry as a move, for the code       Moves
 -- the plain queue, and the claim         of `claim`
 -- where a call takes effect              Effect
 -- demand 3                               Linearizable
@@ -30,6 +31,7 @@ pub mod Machine
 pub mod Perform
 pub mod Entries
 pub mod Obey
+pub mod Moves
 pub mod Effect
 pub mod Linearizable
 pub mod Stories

@@ -19,17 +19,17 @@
 //
 // The machine, which shows each party its view and performs the move:
 //
-// - `machine`: memory, lock, store buffer and calls together, what the parties load, and the operations, one for each
-//   kind of entry and `obey` for any of them;
+// - `machine`: memory, lock, store buffer and calls together, at first, and what the parties load;
 // - `look`: what an operation has to know first, by one pass over the pending stores: whether all is in range, the
 //   worker's tail, and how far memory lags;
-// - `steps`: the two operations that make a step.
+// - `obey`: what each party sees, how a move is performed, and the operations: `obey` for any entry, and one for each
+//   kind, which is `obey` of that kind.
 //
 // An operation hands back the machine, the entry's outcome, and how far memory lags behind the worker there: how many
 // stores are pending by which takes have lowered the tail.
 mod look;
 mod machine;
-mod steps;
+mod obey;
 mod thief;
 mod worker;
 

@@ -1,4 +1,5 @@
 use crate::machine::Machine;
+use crate::thief::Thief;
 use crate::thief::thieves_in_range;
 use crate::worker::WorkerCall;
 use stores::Index;
@@ -62,18 +63,16 @@ impl Look {
 }
 
 impl Machine {
-    // One look at the machine, with one scan of its pending stores.
-    pub(crate) fn look(self) -> Look
+    // One look at the machine, with one scan of its pending stores. The worker's call and the thieves are handed in, as copies that the caller goes on with.
+    pub(crate) fn look(self, call: WorkerCall, thieves: [Thief; 8]) -> Look
+        requires { ⌜ (call ≡ self .worker .call) × (thieves ≡ self .thieves) ⌝ }
         ensures { λ r. ⌜ r ≡ look self ⌝ }
     {
         let sizes = self.sizes;
         let buffer = self.buffer;
-        let worker = self.worker;
-        let call = worker.call;
         let head = self.head;
         let tail = self.tail;
         let spacing = self.spacing;
-        let thieves = self.thieves;
         let found = buffer.scan(tail);
         let newest = found.tail;
         let ranged = sizes.in_range()
@@ -95,7 +94,10 @@ impl Machine {
     pub fn in_range(self) -> bool
         ensures { λ r. ⌜ r ≡ inRange self ⌝ }
     {
-        let seen = self.look();
+        let worker = self.worker;
+        let call = worker.call;
+        let thieves = self.thieves;
+        let seen = self.look(call, thieves);
         seen.ranged
     }
 }

@@ -2,11 +2,13 @@ use stores::Holder;
 use stores::Index;
 use stores::Load;
 use stores::Lock;
+use terms::Entry;
 use terms::Outcome;
 ghost use mathlib.Core.Path.{_≡_};
 ghost use mathlib.Core.Bool.{true};
 ghost use Rattle.terms.specs.Lists.{all};
 ghost use Rattle.stores.specs.Index.{indexInRange};
+ghost use Rattle.machine.specs.Moves.{thiefEntry};
 ghost use Rattle.machine.specs.Thief.{
   ThiefViewInRange,
   goesOn,
@@ -233,5 +235,27 @@ pub(crate) fn thief_move(view: ThiefView) -> ThiefMove
         ThiefCall::StealUnlockTask(task) => return view.steal_unlock(Outcome::Task(task)),
         ThiefCall::StealRestoreHead(h) => return view.heads(h, ThiefCall::StealUnlockAbort),
         ThiefCall::StealUnlockAbort => return view.steal_unlock(Outcome::Abort),
+    }
+}
+
+// What an entry of the thief's does that sees this.
+pub(crate) fn thief_entry(view: ThiefView, entry: Entry) -> ThiefMove
+    requires { ⌜ ThiefViewInRange view ⌝ }
+    ensures { λ r. ⌜ r ≡ thiefEntry entry view ⌝ }
+{
+    match entry {
+        Entry::ThiefStep(_) => return thief_move(view),
+        Entry::BeginSteal(_) => {
+            let call = view.call;
+            if let ThiefCall::Idle = call {
+                return view.goes_on(ThiefCall::StealLock);
+            }
+            return view.stays(Outcome::Place);
+        }
+        Entry::Drain
+        | Entry::ClientStore
+        | Entry::BeginPut(_)
+        | Entry::BeginTake
+        | Entry::WorkerStep => return view.stays(Outcome::Wait),
     }
 }

@@ -4,11 +4,14 @@ use stores::Load;
 use stores::Lock;
 use stores::Maker;
 use stores::Push;
+use stores::Spacing;
 use stores::StoreKind;
+use terms::Entry;
 use terms::Outcome;
 ghost use mathlib.Core.Path.{_≡_};
 ghost use mathlib.Core.Bool.{true};
 ghost use Rattle.stores.specs.Index.{indexInRange};
+ghost use Rattle.machine.specs.Moves.{spacingAfter, workerEntry};
 ghost use Rattle.machine.specs.Worker.{
   WorkerViewInRange,
   answers,
@@ -91,6 +94,27 @@ pub struct WorkerMove {
 }
 
 impl WorkerCall {
+    // The same, case by case: an enum that is copied whole takes its padding along, through every step of an entry (`docs/ARCHITECTURE.md`, "Where a run's time goes").
+    pub(crate) fn copied(self) -> WorkerCall
+        ensures { λ r. ⌜ r ≡ self ⌝ }
+    {
+        match self {
+            WorkerCall::Idle => WorkerCall::Idle,
+            WorkerCall::PutLoadHead(task) => WorkerCall::PutLoadHead(task),
+            WorkerCall::PutStoreSlot(task) => WorkerCall::PutStoreSlot(task),
+            WorkerCall::PutStoreTail => WorkerCall::PutStoreTail,
+            WorkerCall::TakeStoreTail => WorkerCall::TakeStoreTail,
+            WorkerCall::TakeLoadHead(t) => WorkerCall::TakeLoadHead(t),
+            WorkerCall::TakeLoadSlot(t) => WorkerCall::TakeLoadSlot(t),
+            WorkerCall::TakeLock(t) => WorkerCall::TakeLock(t),
+            WorkerCall::TakeReloadHead(t) => WorkerCall::TakeReloadHead(t),
+            WorkerCall::TakeRestoreTail(t) => WorkerCall::TakeRestoreTail(t),
+            WorkerCall::TakeUnlockEmpty => WorkerCall::TakeUnlockEmpty,
+            WorkerCall::TakeUnlockTask(t) => WorkerCall::TakeUnlockTask(t),
+            WorkerCall::TakeLoadLastSlot(t) => WorkerCall::TakeLoadLastSlot(t),
+        }
+    }
+
     // Whether every index that the call holds is in range.
     pub(crate) fn in_range(self) -> bool
         ensures { λ r. ⌜ r ≡ workerInRange self ⌝ }
@@ -383,5 +407,52 @@ pub(crate) fn worker_move(view: WorkerView) -> WorkerMove
         WorkerCall::TakeUnlockEmpty => return view.take_unlock_empty(),
         WorkerCall::TakeUnlockTask(t) => return view.take_unlock_task(t),
         WorkerCall::TakeLoadLastSlot(_) => return view.take_load_slot(),
+    }
+}
+
+// What an entry of the worker's does, by whether a take would be too early.
+pub(crate) fn worker_entry(view: WorkerView, entry: Entry, early: bool) -> WorkerMove
+    requires { ⌜ WorkerViewInRange view ⌝ }
+    ensures { λ r. ⌜ r ≡ workerEntry early entry view ⌝ }
+{
+    let call = view.call;
+    match entry {
+        Entry::WorkerStep => return worker_move(view),
+        Entry::ClientStore => {
+            if call.runs() {
+                return view.stays(Outcome::Place);
+            }
+            let made = Push::One(Maker::TheClient, StoreKind::Client);
+            return view.stores(made, Outcome::Moved, call);
+        }
+        Entry::BeginPut(task) => {
+            if call.runs() {
+                return view.stays(Outcome::Place);
+            }
+            return view.goes_on(WorkerCall::PutLoadHead(task));
+        }
+        Entry::BeginTake => {
+            if call.runs() {
+                return view.stays(Outcome::Place);
+            }
+            if early {
+                return view.stays(Outcome::Early);
+            }
+            return view.goes_on(WorkerCall::TakeStoreTail);
+        }
+        Entry::Drain | Entry::BeginSteal(_) | Entry::ThiefStep(_) => return view.stays(
+            Outcome::Wait,
+        ),
+    }
+}
+
+// What the spacing rule goes by after an entry of the worker's that is not refused, with the store that it makes, if it makes one.
+pub(crate) fn spacing_after(spacing: Spacing, entry: Entry, made: Push) -> Spacing
+    ensures { λ r. ⌜ r ≡ spacingAfter entry made spacing ⌝ }
+{
+    if let Entry::BeginTake = entry {
+        Spacing::take_begins()
+    } else {
+        spacing.counted_in(made)
     }
 }

@@ -21,6 +21,7 @@ use crate::reader::kind_part;
 use crate::reader::operand_part;
 use crate::reader::read;
 use crate::reader::refusal_of;
+use machine::Done;
 use machine::Machine;
 use number::put_word;
 use terms::Entry;
@@ -112,23 +113,27 @@ fn put_count(trace: &mut [u8], entries: usize)
     }
 }
 
-// The loop of `obey_entries`, from any machine. It stands by itself because the compiler copies the machine less in a function that is called from one place
-// (`docs/ARCHITECTURE.md`).
-fn obey_from(mut machine: Machine, kinds: &[u8], operands: &[u8], trace: &mut [u8]) -> Summary
+// The loop of `obey_entries`, from any machine. What the last entry handed back is carried round it whole, and it stands in a function that is called from one place: so the compiler
+// keeps the machine where it is (`docs/ARCHITECTURE.md`, "Where a run's time goes").
+fn obey_from(machine: Machine, kinds: &[u8], operands: &[u8], trace: &mut [u8]) -> Summary
     ensures { λ r. ⌜ r ≡ summaryOf machine (entriesOf (machine .sizes) (now (kinds .entry)) (wordsIn (now (operands .entry)))) ⌝ }
     ensures { λ _. ⌜ now (trace .exit) ≡ tracePut (outcomesOf machine (entriesOf (machine .sizes) (now (kinds .entry)) (wordsIn (now (operands .entry))))) (now (trace .entry)) ⌝ }
 {
     let entries = kinds.len();
     let sizes = machine.sizes;
+    let mut done = Done {
+        machine: machine,
+        outcome: Outcome::Moved,
+        hidden: 0,
+    };
     let mut tally = Tally::none();
     let mut hidden = 0;
     let mut at = 0;
     while at < entries {
         let entry = entry_at(sizes, kinds, operands, at);
-        let done = machine.obey(entry);
+        done = done.machine.obey(entry);
         let outcome = done.outcome;
         hidden = larger(hidden, done.hidden);
-        machine = done.machine;
         tally = tally.counted(outcome);
         put_outcome(trace, entries, at, outcome);
         at += 1;

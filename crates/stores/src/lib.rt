@@ -17,6 +17,7 @@ pub use index::slot_of;
 pub use lock::Holder;
 pub use lock::Lock;
 pub use spacing::Spacing;
+pub use store_buffer::Dropped;
 pub use store_buffer::Maker;
 pub use store_buffer::Push;
 pub use store_buffer::Scan;

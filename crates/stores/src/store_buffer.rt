@@ -59,6 +59,14 @@ pub struct StoreBuffer {
     pub count: usize,
 }
 
+// A store buffer taken apart.
+pub struct Dropped {
+    // The store that has been pending longest; what the first cell holds, where none is pending.
+    pub oldest: Store,
+    // The others.
+    pub left: StoreBuffer,
+}
+
 // What one pass over the pending stores finds.
 pub struct Scan {
     // Whether each is in range.
@@ -70,6 +78,17 @@ pub struct Scan {
 }
 
 impl StoreKind {
+    // The same, case by case: a whole copy out of an array ties up the array (`docs/ARCHITECTURE.md`, "Where a run's time goes").
+    fn copied(self) -> StoreKind
+        ensures { λ r. ⌜ r ≡ self ⌝ }
+    {
+        match self {
+            StoreKind::Client => StoreKind::Client,
+            StoreKind::Tail(tail) => StoreKind::Tail(tail),
+            StoreKind::Slot(task, index) => StoreKind::Slot(task, index),
+        }
+    }
+
     // Whether a machine may have it pending.
     pub fn in_range(self) -> bool
         ensures { λ r. ⌜ r ≡ storeInRange self ⌝ }
@@ -106,17 +125,13 @@ impl StoreKind {
     pub fn slots_after(self, count: u32, mut slots: [u32; 256]) -> [u32; 256]
         ensures { λ r. ⌜ r ≡ slotsAfter count slots self ⌝ }
     {
-        match self {
-            StoreKind::Client | StoreKind::Tail(_) => return slots,
-            StoreKind::Slot(task, index) => {
-                let slot = slot_of(index, count);
-                if slot < 256 {
-                    slots[slot] = task;
-                    return slots;
-                }
-                return slots;
+        if let StoreKind::Slot(task, index) = self {
+            let slot = slot_of(index, count);
+            if slot < 256 {
+                slots[slot] = task;
             }
         }
+        slots
     }
 
     // What the store leaves in this slot, from what was there.
@@ -143,18 +158,26 @@ impl Scan {
         ensures { λ r. ⌜ r ≡ scanned self kind ⌝ }
     {
         let tail = self.tail;
+        let takes = self.takes;
+        if let StoreKind::Client = kind {
+            return Scan {
+                ranged: self.ranged,
+                tail: tail,
+                takes: takes,
+            };
+        }
         let ranged = self.ranged & kind.in_range();
         if kind.lowers_tail(tail) {
             return Scan {
                 ranged: ranged,
                 tail: kind.tail_after(tail),
-                takes: self.takes + 1,
+                takes: takes + 1,
             };
         }
         Scan {
             ranged: ranged,
             tail: kind.tail_after(tail),
-            takes: self.takes,
+            takes: takes,
         }
     }
 }
@@ -220,48 +243,54 @@ impl StoreBuffer {
         newest
     }
 
-    // The store that has been pending longest; what the first cell holds, where none is pending.
-    pub fn oldest(self) -> Store
-        ensures { λ r. ⌜ r ≡ oldest self ⌝ }
-    {
-        let stores = self.stores;
-        stores[0]
-    }
-
-    // Without the oldest, if there is one: the others move a cell to the front, and the cell that becomes free holds the client store.
-    pub fn drop_oldest(mut self) -> StoreBuffer
-        ensures { λ r. ⌜ r ≡ dropOldestOrSame self ⌝ }
+    // The oldest apart, if there is one: the others move a cell to the front, and the cell that becomes free holds the client store.
+    pub fn drop_oldest(self) -> Dropped
+        ensures { λ r. ⌜ r ≡ record { oldest = oldest self; left = dropOldestOrSame self } ⌝ }
     {
         let count = self.count;
-        if (count < 1) | (64 < count) {
-            return self;
-        }
         let mut stores = self.stores;
-        let mut i: usize = 1;
-        while i < count {
-            let store = stores[i];
-            stores[i - 1] = store;
-            i += 1;
-        }
-        stores[count - 1] = Store {
-            kind: StoreKind::Client,
+        let first = stores[0];
+        let kind = first.kind;
+        let oldest = Store {
+            kind: kind.copied(),
         };
-        self.stores = stores;
-        self.count = count - 1;
-        self
+        let mut left = count;
+        if (0 < count) & (count <= 64) {
+            let mut i: usize = 1;
+            while i < count {
+                let store = stores[i];
+                stores[i - 1] = store;
+                i += 1;
+            }
+            left = count - 1;
+            stores[left] = Store {
+                kind: StoreKind::Client,
+            };
+        }
+        Dropped {
+            oldest: oldest,
+            left: StoreBuffer {
+                stores: stores,
+                count: left,
+            },
+        }
     }
 
     // With one more store, the newest, if a cell is free.
-    pub fn push(mut self, store: Store) -> StoreBuffer
+    pub fn push(self, store: Store) -> StoreBuffer
         ensures { λ r. ⌜ r ≡ pushOrSame store self ⌝ }
     {
         let at = self.count;
-        if 64 <= at {
-            return self;
+        let mut stores = self.stores;
+        let mut count = at;
+        if at < 64 {
+            stores[at] = store;
+            count = at + 1;
         }
-        self.stores[at] = store;
-        self.count = at + 1;
-        self
+        StoreBuffer {
+            stores: stores,
+            count: count,
+        }
     }
 
     // With the store that an entry makes, if it makes one and a cell is free.

@@ -5,18 +5,17 @@ use Prim.Native.Nat.{ℕ, _+_, _-_, _≤_, _<_, zero-le}
 use native.Mathlib.Nat.{le-refl}
 use native.Mathlib.Omega.{arith}
 use lib.ListN.{length, length-take}
-use Rattle.terms.proofs.Laws.Lists.{&&-true}
 use Rattle.terms.proofs.Laws.Tests.{either}
 use Rattle.stores.specs.Index.{indexInRange}
-use Rattle.stores.specs.Spacing.{countedIn, spacingInRange}
+use Rattle.stores.specs.Spacing.{spacingInRange}
 use Rattle.stores.specs.StoreBuffer.{lowersTail, oldest, pending, pushInRange, pushLowersTail, pushedIn}
 use Rattle.stores.proofs.Laws.StoreBuffer.{drain-takes, fits-more, pushFits, pushed-count, pushed-ranged, pushed-takes, takeStores-most}
-use Rattle.machine.specs.Types.{Client, Done, Holder, Index, Look, Machine, One, Outcome, Push, Spacing, StealLock, TheClient, ThiefCall, WorkerCall}
+use Rattle.machine.specs.Types.{Done, Holder, Index, Look, Machine, Outcome, Push, Spacing, ThiefCall, WorkerCall}
 use Rattle.machine.specs.InRange.{inRange}
 use Rattle.machine.specs.Worker.{workerInRange}
 use Rattle.machine.specs.Thief.{thiefInRange}
 use Rattle.machine.specs.Machine.{done, handing, hidden, hiddenIf, look, takesPending, workerTail}
-use Rattle.machine.specs.Update.{withBuffer, withHead, withLock, withSpacing, withStore, withThief, withWorker}
+use Rattle.machine.specs.Update.{withBuffer, withHead, withLock, withSpacing, withThief, withWorker}
 use Rattle.machine.specs.Entries.{drained}
 use Rattle.machine.proofs.Laws.InRange.{bounds, drained-ranged, pending-within, thief-ranged, worker-ranged}
 
@@ -59,21 +58,6 @@ module _ (m : Machine) (ready : inRange m ≡ true) where
       let takes = pushed-takes (m .tail) (m .buffer) long p cells ∙ ap (λ n. cond (pushLowersTail (workerTail m) p) (n + 1) n) (sym hidden-known) in
       λ i. hiddenIf (still i) (takes i)
 
-  -- as many after a client store, unless it is counted past the range
-  pub client-hidden : length (m .buffer .stores) ≡ 64 → m .buffer .count < m .sizes .buffer
-      → hidden (withStore (One TheClient Client) m) ≡ hiddenIf (spacingInRange (countedIn (One TheClient Client) (m .spacing))) (hidden m)
-  client-hidden long room =
-      let counted = countedIn (One TheClient Client) (m .spacing) in
-      let still = ap (λ t. spacingInRange counted && true && t) (bounds m ready .worker) ∙ &&-true (spacingInRange counted && true) ∙ &&-true (spacingInRange counted) in
-      worker-hidden (One TheClient Client) counted (m .lock .holder) (m .worker .call) long room ∙ ap (λ t. hiddenIf t (hidden m)) still
-
-  -- as many, as a call begins
-  pub begins-hidden : (s : Spacing) (c : WorkerCall) → spacingInRange s ≡ true → workerInRange c ≡ true → hidden (withWorker c (withSpacing s m)) ≡ hidden m
-  begins-hidden s c counted begun =
-      let k = bounds m ready in
-      let still : inRange (withWorker c (withSpacing s m)) ≡ true = worker-ranged m ready (m .buffer) s (m .lock .holder) c (k .count) ∙ rw (counted, k .stores) begun in
-      ap (λ t. hiddenIf t (takesPending m)) still ∙ sym hidden-known
-
   -- ── A thief ─────────────────────────────────────────────────────────────────────────────────────────────────────────────────
 
   -- as many, while the machine stays in range
@@ -83,9 +67,6 @@ module _ (m : Machine) (ready : inRange m ≡ true) where
       let still = thief-ranged m ready i h l c there in
       let takes = sym hidden-known in
       λ j. hiddenIf (still j) (takes j)
-
-  pub steal-hidden : (i : ℕ) → i < length (m .thieves) → hidden (withThief i StealLock m) ≡ hidden m
-  steal-hidden i there = thief-hidden i (m .head) (m .lock .holder) StealLock there ∙ rw (bounds m ready .head)
 
   -- ── The drain ───────────────────────────────────────────────────────────────────────────────────────────────────────────────
 

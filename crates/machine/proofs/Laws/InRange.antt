@@ -76,13 +76,9 @@ module _ (m : Machine) (ready : inRange m ≡ true) where
   pub worker-tail-in-range : indexInRange (workerTail m) ≡ true
   worker-tail-in-range = let b = bounds m ready in newestTail-in-range (m .buffer) (m .tail) (b .tail) (b .stores)
 
-  -- the pending stores lie within their array; with room, it has a free cell
-
+  -- the pending stores lie within their array
   pub pending-within : m .buffer .count ≤ 64
   pending-within = let b = bounds m ready in let most = b .sizes .buffer-most in let fits = b .count in omega arith
-
-  pub room-below : m .buffer .count < m .sizes .buffer → m .buffer .count < 64
-  room-below room = let b = bounds m ready .sizes in omega arith
 
   -- whatever the index, its slot is one of memory's
   pub slot-below : (i : Index) → slotOf (m .sizes .slots) i < 256

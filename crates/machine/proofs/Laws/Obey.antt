@@ -47,7 +47,7 @@ WorkerObeys m d = Obeys m WorkerStep (performWorker m d)
 worker-stays : {m : Machine} {c : WorkerCall} (o : Outcome) → m .worker .call ≡ c → isAnswer o ≡ false → WorkerObeys m (stays o (workerView m c))
 worker-stays {m = m} o at no-answer = subst (λ c. Obeys m WorkerStep (done o (withWorker c m))) at (refuses no-answer)
 
-worker-obeys : (m : Machine) (c : WorkerCall) → m .worker .call ≡ c → Obeys m WorkerStep (stepOfWorker m c)
+pub worker-obeys : (m : Machine) (c : WorkerCall) → m .worker .call ≡ c → Obeys m WorkerStep (stepOfWorker m c)
 worker-obeys m WorkerCall.Idle at = worker-stays Place at refl
 worker-obeys m (PutLoadHead x) at =
     let v = workerView m (PutLoadHead x) in

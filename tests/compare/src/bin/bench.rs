@@ -1,8 +1,13 @@
 //! Entries per second of both implementations, on the same files in the same
-//! process, one run of each in turn.
+//! process, one run of each in turn; and, where valgrind is there, the
+//! instructions that the proved one takes for an entry, which no other load of
+//! the machine changes.
 
+use std::env;
 use std::hint::black_box;
+use std::process::{self, Command, Stdio};
 use std::time::{Duration, Instant};
+use std::{fs, io};
 
 use comparing::generate::{flavour, flavoured, lean, Flavour};
 use comparing::random::Random;
@@ -15,6 +20,11 @@ const ROUNDS: usize = 11;
 /// The least time that a side spends in one round.
 const ROUND: Duration = Duration::from_millis(20);
 const WARM_UP: Duration = Duration::from_millis(40);
+/// The length of the files whose instructions are counted.
+const COUNTED: usize = 4096;
+/// Has this program run the files of the load that is named after it, once, by
+/// the proved side, and print nothing: what valgrind is given to count.
+const ONCE: &str = "--once";
 /// Entries in all files of one length together. A processor learns the turns
 /// of a single short schedule by heart; many different ones cost what they cost.
 const ENTRIES_TOGETHER: usize = 32_768;
@@ -63,6 +73,12 @@ struct Measured {
 }
 
 fn main() {
+    let mut words = env::args().skip(1);
+    if words.next().as_deref() == Some(ONCE) {
+        let name = words.next().expect("a load's name");
+        let load = LOADS.iter().find(|load| load.name == name);
+        return once(load.expect("a load of this program"));
+    }
     print_head();
     let mut all = Vec::new();
     for load in &LOADS {
@@ -78,6 +94,48 @@ fn main() {
         "median ratio over all loads and lengths: {:.2} (proved time / reference time)",
         median(&ratios)
     );
+    println!();
+    print_instructions();
+}
+
+/// By callgrind, from where a run is called to where it returns.
+fn print_instructions() {
+    println!("instructions an entry of the proved run, {COUNTED} entries, by callgrind");
+    for load in &LOADS {
+        match instructions(load) {
+            Ok(counted) => println!("{:<14}{:>8}", load.name, counted / ENTRIES_TOGETHER as u64),
+            Err(why) => return println!("not counted: {why}"),
+        }
+    }
+}
+
+fn instructions(load: &Load) -> io::Result<u64> {
+    let report = env::temp_dir().join(format!("bench-{}.callgrind", process::id()));
+    let status = Command::new("valgrind")
+        .args(["--quiet", "--tool=callgrind", "--toggle-collect=rehearsal_run"])
+        .arg(format!("--callgrind-out-file={}", report.display()))
+        .args([env::current_exe()?.as_os_str(), ONCE.as_ref(), load.name.as_ref()])
+        .stdout(Stdio::null())
+        .stderr(Stdio::null())
+        .status()
+        .map_err(|error| io::Error::other(format!("valgrind: {error}")))?;
+    if !status.success() {
+        return Err(io::Error::other(format!("valgrind: {status}")));
+    }
+    let text = fs::read_to_string(&report)?;
+    fs::remove_file(&report)?;
+    let total = text.lines().find_map(|line| line.strip_prefix("totals: "));
+    total
+        .and_then(|figure| figure.trim().parse().ok())
+        .ok_or_else(|| io::Error::other("callgrind told no total"))
+}
+
+fn once(load: &Load) {
+    let mut trace = vec![0; trace_room(COUNTED)];
+    let mut totals = [0; TOTALS_ROOM];
+    for file in files(load, COUNTED) {
+        black_box((PROVED.run)(&file, &mut trace, &mut totals));
+    }
 }
 
 fn print_head() {

@@ -1,4 +1,4 @@
--- `obey_from` meets its contract. Its loop keeps that machine, totals, largest number and trace buffer are those after the entries before `at`.
+-- `obey_from` meets its contract. Its loop keeps that the machine handed back last, totals, largest number and trace buffer are those after the entries before `at`.
 use mathlib.Core.Path.{_≡_, refl, _∙_}
 use Prim.Native.Nat.{_-_, _≤_}
 use native.Mathlib.Omega.{arith}
@@ -10,11 +10,11 @@ use Rattle.schedule.proofs.runner.obey_from.Statement.{statement}
 use Rattle.schedule.proofs.runner.obey_from.Tie as tie
 
 abbrev Inv-loop : tie.InvT-loop
-Inv-loop machine₀ kinds operands trace₀ entries sizes tally₀ hidden₀ at₀ machine trace tally hidden at =
-    Obeyed machine₀ (machine₀ .sizes) kinds (wordsIn operands) trace₀ trace machine tally hidden at × (at ≤ length kinds) × (length trace ≡ length trace₀)
+Inv-loop kinds operands trace₀ entries sizes done₀ tally₀ hidden₀ at₀ trace done tally hidden at =
+    Obeyed (done₀ .machine) (done₀ .machine .sizes) kinds (wordsIn operands) trace₀ trace (done .machine) tally hidden at × (at ≤ length kinds) × (length trace ≡ length trace₀)
 
 abbrev μ-loop : tie.MeasureT-loop
-μ-loop machine₀ kinds operands trace₀ entries sizes tally₀ hidden₀ at₀ machine trace tally hidden at = length kinds - at
+μ-loop kinds operands trace₀ entries sizes done₀ tally₀ hidden₀ at₀ trace done tally hidden at = length kinds - at
 
 loop-holds : tie.Need-loop-holds Inv-loop μ-loop
 loop-holds c =
@@ -23,7 +23,7 @@ loop-holds c =
 
 add-at : tie.Need-add-at Inv-loop μ-loop
 add-at c =
-    let test = c .before .before .before .before .before .before .before .before .before in
+    let test = c .before .before .before .before .before .before .before .before in
     let start = test .before .before .before .before .before .before .before in
     omega (arith, test .loop-test .taken, start .good)
 
@@ -31,7 +31,7 @@ loop-again : tie.Need-loop-again Inv-loop μ-loop
 loop-again c =
     let put = c .before .before in
     let count = put .before .before in
-    let compare = count .before .before in
+    let compare = count .before in
     let obey = compare .before in
     let asked = obey .before in
     let turn = asked .before .before in

@@ -1,5 +1,5 @@
 -- `Machine::in_range` meets its contract: a look tells it.
-use borrow.Author.Needs.{needs}
+use mathlib.Core.Path.{refl}
 use Rattle.machine.proofs.machine.Machine.in_range.Statement.{statement}
 use Rattle.machine.proofs.machine.Machine.in_range.Tie as tie
 
@@ -7,4 +7,4 @@ returns : tie.Need-returns
 returns c = simp (c .look .ensures)
 
 pub in-range-spec : {M : Type 1} → statement M
-in-range-spec = tie.close (tie.spec (λ c κs. search needs) returns)
+in-range-spec = tie.close (tie.spec (λ c κs. (refl, refl)) returns)

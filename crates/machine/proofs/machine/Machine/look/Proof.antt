@@ -7,6 +7,7 @@ use Rattle.machine.proofs.machine.Machine.look.Tie as tie
 returns : tie.Need-returns
 unfolding inRange
 returns c =
+    let start = c .before .before .before .before .before .before .before .before .before .before .before .before .before .before .before .before .before in
     simp (
       c .hidden-if .ensures,
       c .before .thieves-in-range .ensures,
@@ -16,6 +17,8 @@ returns c =
       c .before .before .before .before .before .before .in-range2 .ensures,
       c .before .before .before .before .before .before .before .before .before .in-range .ensures,
       c .before .before .before .before .before .before .before .before .before .before .before .scan .ensures,
+      start .pre .0,
+      start .pre .1,
     )
 
 pub look-spec : {M : Type 1} → statement M

@@ -20,17 +20,17 @@ left count slots (Tail t) keys = refl
 left count slots (Slot x i) keys = absurd (miss (0 ∷ 1 ∷ []) 2 tt keys)
 
 returns : tie.Need-returns
-returns c = left (c .before .args .count) _ (c .before .args .self) (c .match .keys1)
+returns c = simp (c .before .slot-of .ensures, c .before .before .before .self .given .1)
 
 returns-2 : tie.Need-returns-2
-returns-2 c = simp (c .before .slot-of .ensures, c .before .before .before .self .given .1)
-
-returns-3 : tie.Need-returns-3
-returns-3 c =
+returns-2 c =
     let start = c .before .before .before .before .before in
     let long : length (start .args .t3) ≡ 256 = search needs in
     simp (c .before .before .before .self .given .1, sym (c .before .slot-of .ensures)) (sym (set-out (start .args .t3) (c .before .slot-of .result) _ (omega arith)))
 
+returns-3 : tie.Need-returns-3
+returns-3 c = left (c .before .args .count) _ (c .before .args .self) (c .match .keys2)
+
 pub slots-after-spec : {M : Type 1} → statement M
 slots-after-spec =
-    tie.close (tie.spec returns (λ c. search needs) (λ c κs. search needs) (λ c. search needs) (λ c. search needs) returns-2 returns-3)
+    tie.close (tie.spec (λ c. search needs) (λ c κs. search needs) (λ c. search needs) (λ c. search needs) returns returns-2 returns-3)

@@ -1,0 +1,48 @@
+-- An entry of the worker's or of a thief's as a move, like the steps of `Worker` and `Thief`; for the code alone, which decides every entry of a party in one place. What an entry does to the machine is said in `Entries` and
+-- `Perform`; that this comes to it is a law (`proofs/Laws/Moves.antt`).
+use mathlib.Core.Bool.{Bool, cond}
+use Prim.Native.Nat.{ℕ}
+use Rattle.stores.specs.Spacing.{countedInOrSame, takeBegins}
+use Rattle.machine.specs.Types.{Client, Entry, Drain, ClientStore, BeginPut, BeginTake, WorkerStep, BeginSteal, ThiefStep, One, TheClient, Moved, Place, Early, Wait, Push, Spacing, PutLoadHead, TakeStoreTail, StealLock, ThiefMove, ThiefView, WorkerMove, WorkerView}
+use Rattle.machine.specs.Worker.{goesOn, stays, storing, workerMove, workerRuns}
+use Rattle.machine.specs.Thief.{goesOn as thiefGoesOn, stays as thiefStays, thiefMove, thiefRuns}
+
+-- an entry of the worker's, by whether a take would be too early; another party's is none of its moves
+abbrev pub workerEntry : Bool → Entry → WorkerView → WorkerMove
+workerEntry early ClientStore v = cond (workerRuns (v .call)) (stays Place v) (storing (One TheClient Client) Moved (v .call) v)
+workerEntry early (BeginPut x) v = cond (workerRuns (v .call)) (stays Place v) (goesOn (PutLoadHead x) v)
+workerEntry early BeginTake v = cond (workerRuns (v .call)) (stays Place v) (cond early (stays Early v) (goesOn TakeStoreTail v))
+workerEntry early WorkerStep v = workerMove (v .call) v
+workerEntry early Drain v = stays Wait v
+workerEntry early (BeginSteal i) v = stays Wait v
+workerEntry early (ThiefStep i) v = stays Wait v
+
+-- what the spacing rule goes by after it, if it was not refused
+abbrev pub spacingAfter : Entry → Push → Spacing → Spacing
+spacingAfter BeginTake p s = takeBegins
+spacingAfter ClientStore p s = countedInOrSame p s
+spacingAfter (BeginPut x) p s = countedInOrSame p s
+spacingAfter WorkerStep p s = countedInOrSame p s
+spacingAfter Drain p s = countedInOrSame p s
+spacingAfter (BeginSteal i) p s = countedInOrSame p s
+spacingAfter (ThiefStep i) p s = countedInOrSame p s
+
+-- the thief that an entry names; 0 where it names none
+abbrev pub thiefOf : Entry → ℕ
+thiefOf Drain = 0
+thiefOf ClientStore = 0
+thiefOf (BeginPut x) = 0
+thiefOf BeginTake = 0
+thiefOf WorkerStep = 0
+thiefOf (BeginSteal i) = i
+thiefOf (ThiefStep i) = i
+
+-- an entry of the thief's that sees this
+abbrev pub thiefEntry : Entry → ThiefView → ThiefMove
+thiefEntry (BeginSteal i) v = cond (thiefRuns (v .call)) (thiefStays Place v) (thiefGoesOn StealLock v)
+thiefEntry (ThiefStep i) v = thiefMove (v .call) v
+thiefEntry Drain v = thiefStays Wait v
+thiefEntry ClientStore v = thiefStays Wait v
+thiefEntry (BeginPut x) v = thiefStays Wait v
+thiefEntry BeginTake v = thiefStays Wait v
+thiefEntry WorkerStep v = thiefStays Wait v
