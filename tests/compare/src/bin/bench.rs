@@ -112,9 +112,17 @@ fn print_instructions() {
 fn instructions(load: &Load) -> io::Result<u64> {
     let report = env::temp_dir().join(format!("bench-{}.callgrind", process::id()));
     let status = Command::new("valgrind")
-        .args(["--quiet", "--tool=callgrind", "--toggle-collect=rehearsal_run"])
+        .args([
+            "--quiet",
+            "--tool=callgrind",
+            "--toggle-collect=rehearsal_run",
+        ])
         .arg(format!("--callgrind-out-file={}", report.display()))
-        .args([env::current_exe()?.as_os_str(), ONCE.as_ref(), load.name.as_ref()])
+        .args([
+            env::current_exe()?.as_os_str(),
+            ONCE.as_ref(),
+            load.name.as_ref(),
+        ])
         .stdout(Stdio::null())
         .stderr(Stdio::null())
         .status()
