@@ -1,5 +1,5 @@
 -- An entry of the worker's or of a thief's as a move, like the steps of `Worker` and `Thief`; for the code alone, which decides every entry of a party in one place. What an entry does to the machine is said in `Entries` and
--- `Perform`; that this comes to it is a law (`proofs/Laws/Moves.antt`).
+-- `Perform`; that this comes to it is a law (`proofs/Laws/Moves.antt`). Entries of another party never get here; their lines stand because a definition has one for every entry.
 use mathlib.Core.Bool.{Bool, cond}
 use Prim.Native.Nat.{ℕ}
 use Rattle.stores.specs.Spacing.{countedInOrSame, takeBegins}
@@ -7,7 +7,7 @@ use Rattle.machine.specs.Types.{Client, Entry, Drain, ClientStore, Begin
 use Rattle.machine.specs.Worker.{goesOn, stays, storing, workerMove, workerRuns}
 use Rattle.machine.specs.Thief.{goesOn as thiefGoesOn, stays as thiefStays, thiefMove, thiefRuns}
 
--- an entry of the worker's, by whether a take would be too early; another party's is none of its moves
+-- an entry of the worker's, by whether a take would be too early
 abbrev pub workerEntry : Bool → Entry → WorkerView → WorkerMove
 workerEntry early ClientStore v = cond (workerRuns (v .call)) (stays Place v) (storing (One TheClient Client) Moved (v .call) v)
 workerEntry early (BeginPut x) v = cond (workerRuns (v .call)) (stays Place v) (goesOn (PutLoadHead x) v)
@@ -27,7 +27,7 @@ spacingAfter Drain p s = countedInOrSame p s
 spacingAfter (BeginSteal i) p s = countedInOrSame p s
 spacingAfter (ThiefStep i) p s = countedInOrSame p s
 
--- the thief that an entry names; 0 where it names none
+-- the thief that an entry names; the first, where it names none
 abbrev pub thiefOf : Entry → ℕ
 thiefOf Drain = 0
 thiefOf ClientStore = 0
@@ -37,7 +37,7 @@ thiefOf WorkerStep = 0
 thiefOf (BeginSteal i) = i
 thiefOf (ThiefStep i) = i
 
--- an entry of the thief's that sees this
+-- an entry of the thief that sees this
 abbrev pub thiefEntry : Entry → ThiefView → ThiefMove
 thiefEntry (BeginSteal i) v = cond (thiefRuns (v .call)) (thiefStays Place v) (thiefGoesOn StealLock v)
 thiefEntry (ThiefStep i) v = thiefMove (v .call) v

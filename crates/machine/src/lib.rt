@@ -19,6 +19,7 @@
 //
 // The machine, which shows each party its view and performs the move:
 //
+// - `moves`: every entry of a party as a move of it: its steps, its beginnings and the client store;
 // - `machine`: memory, lock, store buffer and calls together, at first, and what the parties load;
 // - `look`: what an operation has to know first, by one pass over the pending stores: whether all is in range, the
 //   worker's tail, and how far memory lags;
@@ -29,6 +30,7 @@
 // stores are pending by which takes have lowered the tail.
 mod look;
 mod machine;
+mod moves;
 mod obey;
 mod thief;
 mod worker;

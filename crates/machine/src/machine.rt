@@ -129,7 +129,7 @@ impl Machine {
         let idle = Thief {
             call: ThiefCall::Idle,
         };
-        // A store at a place that the compiler does not know keeps it from taking the array apart (`docs/ARCHITECTURE.md`, "Where a run's time goes").
+        // A store at a place that the compiler does not know keeps it from splitting the array into its cells (`docs/ARCHITECTURE.md`, "Where a run's time goes").
         let mut stores = [client; 64];
         stores[sizes.buffer as usize % 64] = client;
         let mut thieves = [idle; 8];

@@ -3,16 +3,17 @@ use crate::look::hidden_if;
 use crate::machine::Done;
 use crate::machine::Machine;
 use crate::machine::Worker;
+use crate::moves::spacing_after;
+use crate::moves::thief_entry;
+use crate::moves::thief_of;
+use crate::moves::worker_entry;
 use crate::thief::Thief;
 use crate::thief::ThiefCall;
 use crate::thief::ThiefMove;
 use crate::thief::ThiefView;
-use crate::thief::thief_entry;
 use crate::worker::WorkerCall;
 use crate::worker::WorkerMove;
 use crate::worker::WorkerView;
-use crate::worker::spacing_after;
-use crate::worker::worker_entry;
 use stores::Index;
 use stores::Push;
 use stores::Spacing;
@@ -20,7 +21,6 @@ use stores::StoreBuffer;
 use stores::StoreKind;
 use terms::Entry;
 use terms::Outcome;
-use terms::Sizes;
 ghost use mathlib.Core.Path.{_≡_};
 ghost use mathlib.Core.Bool.{true};
 ghost use Prim.Native.Nat.{_<_};
@@ -28,56 +28,17 @@ ghost use Rattle.terms.specs.Outcome.{isRefusal};
 ghost use Rattle.stores.specs.StoreBuffer.{pushedOrSame, slotsAfter};
 ghost use Rattle.machine.specs.InRange.{inRange};
 ghost use Rattle.machine.specs.Machine.{handing, thiefCall, workerTail};
-ghost use Rattle.machine.specs.Moves.{thiefOf};
-ghost use Rattle.machine.specs.Obey.{obey, thiefIsThere};
-ghost use Rattle.machine.specs.Perform.{thiefView, workerView};
+ghost use Rattle.machine.specs.Obey.{obey};
+ghost use Rattle.machine.specs.Perform.{performThief, thiefView, workerView};
 ghost use Rattle.machine.specs.Types.{BeginPut, BeginSteal, BeginTake, ClientStore, Drain, Moved, ThiefStep, WorkerStep};
-ghost use Rattle.machine.specs.Update.{withBuffer, withHead, withLock, withMemory, withSpacing, withThief, withWorker};
+ghost use Rattle.machine.specs.Update.{withBuffer, withLock, withMemory, withSpacing, withWorker};
 
-// Whether an outcome is a refusal: then the machine is handed back as it was.
-fn refuses(outcome: Outcome) -> bool
+// Whether an outcome is 5, 6 or 7: then the machine is handed back as it was.
+fn is_refusal(outcome: Outcome) -> bool
     ensures { λ r. ⌜ r ≡ isRefusal outcome ⌝ }
 {
-    match outcome {
-        Outcome::Place | Outcome::Early | Outcome::Wait => true,
-        Outcome::Moved
-        | Outcome::Stored
-        | Outcome::Task(_)
-        | Outcome::Empty
-        | Outcome::Abort
-        | Outcome::Full
-        | Outcome::End => false,
-    }
-}
-
-// Whether the thief that an entry names, if it names one, is there.
-fn thief_is_there(sizes: Sizes, entry: Entry) -> bool
-    ensures { λ r. ⌜ r ≡ thiefIsThere sizes entry ⌝ }
-{
-    match entry {
-        Entry::Drain
-        | Entry::ClientStore
-        | Entry::BeginPut(_)
-        | Entry::BeginTake
-        | Entry::WorkerStep => true,
-        Entry::BeginSteal(beginner) => beginner < sizes.thieves,
-        Entry::ThiefStep(stepper) => stepper < sizes.thieves,
-    }
-}
-
-// The thief that an entry names; 0 where it names none.
-fn thief_of(entry: Entry) -> u32
-    ensures { λ r. ⌜ r ≡ thiefOf entry ⌝ }
-{
-    match entry {
-        Entry::Drain
-        | Entry::ClientStore
-        | Entry::BeginPut(_)
-        | Entry::BeginTake
-        | Entry::WorkerStep => 0,
-        Entry::BeginSteal(beginner) => beginner,
-        Entry::ThiefStep(stepper) => stepper,
-    }
+    let number = outcome.number();
+    (5 <= number) & (number <= 7)
 }
 
 // What a party sees, and one way out of `obey` for each way in which an entry changes the machine.
@@ -136,7 +97,7 @@ impl Machine {
     }
 
     // A store has reached the tail, or the client's memory; these are left.
-    fn drained(mut self, tail: Index, left: StoreBuffer, hidden: u32) -> Done
+    fn drained_to_tail(mut self, tail: Index, left: StoreBuffer, hidden: u32) -> Done
         ensures { λ r. ⌜ r ≡ handing Moved hidden (withMemory (self .slots) tail left self) ⌝ }
     {
         self.tail = tail;
@@ -148,8 +109,8 @@ impl Machine {
         }
     }
 
-    // The worker's move is performed, and makes a store.
-    fn stored(mut self, step: WorkerMove, spacing: Spacing, hidden: u32) -> Done
+    // The worker's move is performed, with the store that it makes.
+    fn worker_moved_storing(mut self, step: WorkerMove, spacing: Spacing, hidden: u32) -> Done
         ensures { λ r. ⌜ r ≡ handing (step .outcome) hidden (withWorker (step .call) (withLock (step .lock .holder) (withSpacing spacing (withBuffer (pushedOrSame (step .push) (self .buffer)) self)))) ⌝ }
     {
         let buffer = self.buffer;
@@ -169,8 +130,8 @@ impl Machine {
         }
     }
 
-    // The worker's move is performed, and makes none.
-    fn stepped(mut self, step: WorkerMove, spacing: Spacing, hidden: u32) -> Done
+    // The worker's move is performed, which makes no store.
+    fn worker_moved(mut self, step: WorkerMove, spacing: Spacing, hidden: u32) -> Done
         ensures { λ r. ⌜ r ≡ handing (step .outcome) hidden (withWorker (step .call) (withLock (step .lock .holder) (withSpacing spacing self))) ⌝ }
     {
         let lock = step.lock;
@@ -188,9 +149,9 @@ impl Machine {
     }
 
     // The move of the thief with this number is performed.
-    fn stolen(mut self, thief: u32, step: ThiefMove, hidden: u32) -> Done
+    fn thief_moved(mut self, thief: u32, step: ThiefMove, hidden: u32) -> Done
         requires { ⌜ thief < 8 ⌝ }
-        ensures { λ r. ⌜ r ≡ handing (step .outcome) hidden (withThief thief (step .call) (withLock (step .lock .holder) (withHead (step .head) self))) ⌝ }
+        ensures { λ r. ⌜ r ≡ handing (step .outcome) hidden (performThief thief self step .machine) ⌝ }
     {
         let head = step.head;
         let lock = step.lock;
@@ -221,7 +182,8 @@ impl Machine {
         let call = held.copied();
         let thieves = self.thieves;
         let seen = self.look(call, thieves);
-        if !(seen.ranged & thief_is_there(sizes, entry)) {
+        let thief = thief_of(entry);
+        if !(seen.ranged & (thief < sizes.thieves)) {
             return self.refused(Outcome::Wait, seen.hidden);
         }
         match entry {
@@ -240,7 +202,7 @@ impl Machine {
                 if let StoreKind::Slot(_, _) = kind {
                     return self.drained_to_slot(kind, left, hidden);
                 }
-                return self.drained(kind.tail_after(tail), left, hidden);
+                return self.drained_to_tail(kind.tail_after(tail), left, hidden);
             }
             // The worker's entry is a move of its own.
             Entry::ClientStore | Entry::BeginPut(_) | Entry::BeginTake | Entry::WorkerStep => {
@@ -249,7 +211,7 @@ impl Machine {
                 let view = self.worker_view(call, newest);
                 let step = worker_entry(view, entry, spacing.too_early(sizes.spacing));
                 let outcome = step.outcome;
-                if refuses(outcome) {
+                if is_refusal(outcome) {
                     return self.refused(outcome, seen.hidden);
                 }
                 let made = step.push;
@@ -257,26 +219,25 @@ impl Machine {
                 let counted = spacing_after(spacing, entry, made);
                 let hidden = seen.hidden_after(made, counted, next);
                 if let Push::One(_, _) = made {
-                    return self.stored(step, counted, hidden);
+                    return self.worker_moved_storing(step, counted, hidden);
                 }
-                return self.stepped(step, counted, hidden);
+                return self.worker_moved(step, counted, hidden);
             }
             // The thief's entry is a move of that thief's.
             Entry::BeginSteal(_) | Entry::ThiefStep(_) => {
-                let thief = thief_of(entry);
                 let found = thieves[thief as usize];
                 let mine = found.call;
                 let view = self.thief_view(thief, mine);
                 let step = thief_entry(view, entry);
                 let outcome = step.outcome;
-                if refuses(outcome) {
+                if is_refusal(outcome) {
                     return self.refused(outcome, seen.hidden);
                 }
                 let head = step.head;
                 let next = step.call;
                 let moved = Thief { call: next };
                 let hidden = hidden_if(head.in_range() & moved.in_range(), seen.hidden);
-                return self.stolen(thief, step, hidden);
+                return self.thief_moved(thief, step, hidden);
             }
         }
     }

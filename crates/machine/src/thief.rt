@@ -2,13 +2,11 @@ use stores::Holder;
 use stores::Index;
 use stores::Load;
 use stores::Lock;
-use terms::Entry;
 use terms::Outcome;
 ghost use mathlib.Core.Path.{_≡_};
 ghost use mathlib.Core.Bool.{true};
 ghost use Rattle.terms.specs.Lists.{all};
 ghost use Rattle.stores.specs.Index.{indexInRange};
-ghost use Rattle.machine.specs.Moves.{thiefEntry};
 ghost use Rattle.machine.specs.Thief.{
   ThiefViewInRange,
   goesOn,
@@ -50,7 +48,7 @@ pub struct Thief {
     pub call: ThiefCall,
 }
 
-// What a thief sees at a step.
+// What a thief sees at an entry of its own.
 pub struct ThiefView {
     // Its call in progress.
     pub call: ThiefCall,
@@ -66,7 +64,7 @@ pub struct ThiefView {
     pub loaded: u32,
 }
 
-// What a step does: head, lock and call after it, and its outcome.
+// What the entry does: head, lock and call after it, and its outcome.
 pub struct ThiefMove {
     pub head: Index,
     pub lock: Lock,
@@ -129,7 +127,7 @@ impl ThiefCall {
 
 impl ThiefView {
     // Refused: all stays as it is.
-    fn stays(self, outcome: Outcome) -> ThiefMove
+    pub(crate) fn stays(self, outcome: Outcome) -> ThiefMove
         ensures { λ r. ⌜ r ≡ stays outcome self ⌝ }
     {
         let head = self.head;
@@ -157,7 +155,7 @@ impl ThiefView {
     }
 
     // The call goes on: this step is next.
-    fn goes_on(self, call: ThiefCall) -> ThiefMove
+    pub(crate) fn goes_on(self, call: ThiefCall) -> ThiefMove
         ensures { λ r. ⌜ r ≡ goesOn call self ⌝ }
     {
         let head = self.head;
@@ -235,27 +233,5 @@ pub(crate) fn thief_move(view: ThiefView) -> ThiefMove
         ThiefCall::StealUnlockTask(task) => return view.steal_unlock(Outcome::Task(task)),
         ThiefCall::StealRestoreHead(h) => return view.heads(h, ThiefCall::StealUnlockAbort),
         ThiefCall::StealUnlockAbort => return view.steal_unlock(Outcome::Abort),
-    }
-}
-
-// What an entry of the thief's does that sees this.
-pub(crate) fn thief_entry(view: ThiefView, entry: Entry) -> ThiefMove
-    requires { ⌜ ThiefViewInRange view ⌝ }
-    ensures { λ r. ⌜ r ≡ thiefEntry entry view ⌝ }
-{
-    match entry {
-        Entry::ThiefStep(_) => return thief_move(view),
-        Entry::BeginSteal(_) => {
-            let call = view.call;
-            if let ThiefCall::Idle = call {
-                return view.goes_on(ThiefCall::StealLock);
-            }
-            return view.stays(Outcome::Place);
-        }
-        Entry::Drain
-        | Entry::ClientStore
-        | Entry::BeginPut(_)
-        | Entry::BeginTake
-        | Entry::WorkerStep => return view.stays(Outcome::Wait),
     }
 }

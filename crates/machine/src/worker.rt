@@ -4,14 +4,11 @@ use stores::Load;
 use stores::Lock;
 use stores::Maker;
 use stores::Push;
-use stores::Spacing;
 use stores::StoreKind;
-use terms::Entry;
 use terms::Outcome;
 ghost use mathlib.Core.Path.{_≡_};
 ghost use mathlib.Core.Bool.{true};
 ghost use Rattle.stores.specs.Index.{indexInRange};
-ghost use Rattle.machine.specs.Moves.{spacingAfter, workerEntry};
 ghost use Rattle.machine.specs.Worker.{
   WorkerViewInRange,
   answers,
@@ -67,7 +64,7 @@ pub enum WorkerCall {
     TakeLoadLastSlot(Index),
 }
 
-// What the worker sees at a step.
+// What the worker sees at an entry of its own.
 pub struct WorkerView {
     // Its call in progress.
     pub call: WorkerCall,
@@ -85,7 +82,7 @@ pub struct WorkerView {
     pub loaded: u32,
 }
 
-// What a step does: the store that it makes, the lock and the call after it, and its outcome.
+// What the entry does: the store that it makes, the lock and the call after it, and its outcome.
 pub struct WorkerMove {
     pub push: Push,
     pub lock: Lock,
@@ -171,7 +168,7 @@ impl WorkerCall {
 
 impl WorkerView {
     // Refused: all stays as it is.
-    fn stays(self, outcome: Outcome) -> WorkerMove
+    pub(crate) fn stays(self, outcome: Outcome) -> WorkerMove
         ensures { λ r. ⌜ r ≡ stays outcome self ⌝ }
     {
         let lock = self.lock;
@@ -185,7 +182,7 @@ impl WorkerView {
     }
 
     // The call goes on: this step is next.
-    fn goes_on(self, call: WorkerCall) -> WorkerMove
+    pub(crate) fn goes_on(self, call: WorkerCall) -> WorkerMove
         ensures { λ r. ⌜ r ≡ goesOn call self ⌝ }
     {
         let lock = self.lock;
@@ -211,7 +208,7 @@ impl WorkerView {
     }
 
     // A store is made, for which there must be room.
-    fn stores(self, made: Push, outcome: Outcome, call: WorkerCall) -> WorkerMove
+    pub(crate) fn stores(self, made: Push, outcome: Outcome, call: WorkerCall) -> WorkerMove
         ensures { λ r. ⌜ r ≡ storing made outcome call self ⌝ }
     {
         if self.room {
@@ -407,52 +404,5 @@ pub(crate) fn worker_move(view: WorkerView) -> WorkerMove
         WorkerCall::TakeUnlockEmpty => return view.take_unlock_empty(),
         WorkerCall::TakeUnlockTask(t) => return view.take_unlock_task(t),
         WorkerCall::TakeLoadLastSlot(_) => return view.take_load_slot(),
-    }
-}
-
-// What an entry of the worker's does, by whether a take would be too early.
-pub(crate) fn worker_entry(view: WorkerView, entry: Entry, early: bool) -> WorkerMove
-    requires { ⌜ WorkerViewInRange view ⌝ }
-    ensures { λ r. ⌜ r ≡ workerEntry early entry view ⌝ }
-{
-    let call = view.call;
-    match entry {
-        Entry::WorkerStep => return worker_move(view),
-        Entry::ClientStore => {
-            if call.runs() {
-                return view.stays(Outcome::Place);
-            }
-            let made = Push::One(Maker::TheClient, StoreKind::Client);
-            return view.stores(made, Outcome::Moved, call);
-        }
-        Entry::BeginPut(task) => {
-            if call.runs() {
-                return view.stays(Outcome::Place);
-            }
-            return view.goes_on(WorkerCall::PutLoadHead(task));
-        }
-        Entry::BeginTake => {
-            if call.runs() {
-                return view.stays(Outcome::Place);
-            }
-            if early {
-                return view.stays(Outcome::Early);
-            }
-            return view.goes_on(WorkerCall::TakeStoreTail);
-        }
-        Entry::Drain | Entry::BeginSteal(_) | Entry::ThiefStep(_) => return view.stays(
-            Outcome::Wait,
-        ),
-    }
-}
-
-// What the spacing rule goes by after an entry of the worker's that is not refused, with the store that it makes, if it makes one.
-pub(crate) fn spacing_after(spacing: Spacing, entry: Entry, made: Push) -> Spacing
-    ensures { λ r. ⌜ r ≡ spacingAfter entry made spacing ⌝ }
-{
-    if let Entry::BeginTake = entry {
-        Spacing::take_begins()
-    } else {
-        spacing.counted_in(made)
     }
 }

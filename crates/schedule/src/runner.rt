@@ -113,14 +113,15 @@ fn put_count(trace: &mut [u8], entries: usize)
     }
 }
 
-// The loop of `obey_entries`, from any machine. What the last entry handed back is carried round it whole, and it stands in a function that is called from one place: so the compiler
-// keeps the machine where it is (`docs/ARCHITECTURE.md`, "Where a run's time goes").
+// The loop of `obey_entries`, from any machine. What the last entry handed back is carried round it whole, and the loop stands in a function that is called from one place: so the
+// compiler keeps the machine where it is (`docs/ARCHITECTURE.md`, "Where a run's time goes").
 fn obey_from(machine: Machine, kinds: &[u8], operands: &[u8], trace: &mut [u8]) -> Summary
     ensures { λ r. ⌜ r ≡ summaryOf machine (entriesOf (machine .sizes) (now (kinds .entry)) (wordsIn (now (operands .entry)))) ⌝ }
     ensures { λ _. ⌜ now (trace .exit) ≡ tracePut (outcomesOf machine (entriesOf (machine .sizes) (now (kinds .entry)) (wordsIn (now (operands .entry))))) (now (trace .entry)) ⌝ }
 {
     let entries = kinds.len();
     let sizes = machine.sizes;
+    // Of this one only the machine is read.
     let mut done = Done {
         machine: machine,
         outcome: Outcome::Moved,

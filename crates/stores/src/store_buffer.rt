@@ -59,11 +59,11 @@ pub struct StoreBuffer {
     pub count: usize,
 }
 
-// A store buffer taken apart.
+// What dropping the oldest store of a buffer hands back.
 pub struct Dropped {
     // The store that has been pending longest; what the first cell holds, where none is pending.
     pub oldest: Store,
-    // The others.
+    // The buffer without it; as it was, where none is pending or more than there are cells.
     pub left: StoreBuffer,
 }
 
@@ -78,7 +78,7 @@ pub struct Scan {
 }
 
 impl StoreKind {
-    // The same, case by case: a whole copy out of an array ties up the array (`docs/ARCHITECTURE.md`, "Where a run's time goes").
+    // The same, case by case: an enum that is copied whole takes its padding along, and the array that it comes from (`docs/ARCHITECTURE.md`, "Where a run's time goes").
     fn copied(self) -> StoreKind
         ensures { λ r. ⌜ r ≡ self ⌝ }
     {
@@ -159,6 +159,7 @@ impl Scan {
     {
         let tail = self.tail;
         let takes = self.takes;
+        // Nothing of what follows is so of a client store, and the loop over a full buffer is the dearest of all.
         if let StoreKind::Client = kind {
             return Scan {
                 ranged: self.ranged,
@@ -243,7 +244,7 @@ impl StoreBuffer {
         newest
     }
 
-    // The oldest apart, if there is one: the others move a cell to the front, and the cell that becomes free holds the client store.
+    // Without the oldest, which is handed back beside: the others move a cell to the front, and the cell that becomes free holds the client store.
     pub fn drop_oldest(self) -> Dropped
         ensures { λ r. ⌜ r ≡ record { oldest = oldest self; left = dropOldestOrSame self } ⌝ }
     {

@@ -5,7 +5,8 @@
 
 use std::env;
 use std::hint::black_box;
-use std::process::{self, Command, Stdio};
+use std::path::Path;
+use std::process::{self, Command};
 use std::time::{Duration, Instant};
 use std::{fs, io};
 
@@ -20,8 +21,10 @@ const ROUNDS: usize = 11;
 /// The least time that a side spends in one round.
 const ROUND: Duration = Duration::from_millis(20);
 const WARM_UP: Duration = Duration::from_millis(40);
-/// The length of the files whose instructions are counted.
+/// The length of the files whose instructions are counted, and the function
+/// that is counted with all that it calls: the proved run as C sees it.
 const COUNTED: usize = 4096;
+const COUNTED_FUNCTION: &str = "rehearsal_run";
 /// Has this program run the files of the load that is named after it, once, by
 /// the proved side, and print nothing: what valgrind is given to count.
 const ONCE: &str = "--once";
@@ -111,38 +114,42 @@ fn print_instructions() {
 
 fn instructions(load: &Load) -> io::Result<u64> {
     let report = env::temp_dir().join(format!("bench-{}.callgrind", process::id()));
-    let status = Command::new("valgrind")
-        .args([
-            "--quiet",
-            "--tool=callgrind",
-            "--toggle-collect=rehearsal_run",
-        ])
+    let counted = count(load, &report);
+    let _ = fs::remove_file(&report);
+    counted
+}
+
+fn count(load: &Load, report: &Path) -> io::Result<u64> {
+    let ran = Command::new("valgrind")
+        .args(["--quiet", "--tool=callgrind"])
+        .arg(format!("--toggle-collect={COUNTED_FUNCTION}"))
         .arg(format!("--callgrind-out-file={}", report.display()))
-        .args([
-            env::current_exe()?.as_os_str(),
-            ONCE.as_ref(),
-            load.name.as_ref(),
-        ])
-        .stdout(Stdio::null())
-        .stderr(Stdio::null())
-        .status()
+        .args([env::current_exe()?.as_os_str(), ONCE.as_ref()])
+        .arg(load.name)
+        .output()
         .map_err(|error| io::Error::other(format!("valgrind: {error}")))?;
-    if !status.success() {
-        return Err(io::Error::other(format!("valgrind: {status}")));
+    if !ran.status.success() {
+        let said = String::from_utf8_lossy(&ran.stderr);
+        let last = said.lines().last().unwrap_or_default();
+        return Err(io::Error::other(format!(
+            "valgrind: {}: {last}",
+            ran.status
+        )));
     }
-    let text = fs::read_to_string(&report)?;
-    fs::remove_file(&report)?;
+    let text = fs::read_to_string(report)?;
     let total = text.lines().find_map(|line| line.strip_prefix("totals: "));
-    total
-        .and_then(|figure| figure.trim().parse().ok())
-        .ok_or_else(|| io::Error::other("callgrind told no total"))
+    match total.and_then(|figure| figure.trim().parse().ok()) {
+        None | Some(0) => Err(io::Error::other(format!("no {COUNTED_FUNCTION} was seen"))),
+        Some(counted) => Ok(counted),
+    }
 }
 
 fn once(load: &Load) {
     let mut trace = vec![0; trace_room(COUNTED)];
     let mut totals = [0; TOTALS_ROOM];
     for file in files(load, COUNTED) {
-        black_box((PROVED.run)(&file, &mut trace, &mut totals));
+        let answer = (PROVED.run)(&file, &mut trace, &mut totals);
+        assert!(!answer.is_refused(), "the load is refused");
     }
 }
 

@@ -8,9 +8,10 @@ use denote.Enum.Declared.{tagOf}
 use native.Mathlib.Omega.{arith}
 use borrow.Author.Needs.{needs}
 use borrow.Author.Tests.{eq-eqb, ne-eqb}
+use lib.Dec.{ltb}
 use lib.ListN.{length, length-map}
 use Rattle.terms.specs.Outcome.{isRefusal}
-use Rattle.terms.proofs.Laws.Tests.{and-left, by-test, denied, granted, known}
+use Rattle.terms.proofs.Laws.Tests.{by-test, denied, granted, known}
 use Rattle.stores.specs.StoreBuffer.{dropOldest, lowersTail, oldest, pushInRange, pushLowersTail, pushedIn, slotsAfter, tailAfter}
 use Rattle.stores.specs.Spacing.{spacingInRange}
 use Rattle.stores.proofs.Laws.StoreBuffer.{dropOldest-some, fits-more, pushed-free}
@@ -20,52 +21,62 @@ use Rattle.machine.specs.InRange.{inRange}
 use Rattle.machine.specs.Machine.{done, handing, hidden, hiddenIf, look, thiefCall, workerTail}
 use Rattle.machine.specs.Worker.{WorkerViewInRange, workerInRange}
 use Rattle.machine.specs.Update.{withBuffer, withLock, withMemory, withSpacing, withWorker}
-use Rattle.machine.specs.Perform.{thiefView, workerView}
+use Rattle.machine.specs.Perform.{performThief, thiefView, workerView}
 use Rattle.machine.specs.Entries.{drained}
 use Rattle.machine.specs.Moves.{spacingAfter, thiefEntry, thiefOf, workerEntry}
-use Rattle.machine.specs.Obey.{obey, obeyInRange, thiefIsThere}
+use Rattle.machine.specs.Obey.{obey, obeyInRange}
 use Rattle.machine.proofs.Laws.InRange.{ThiefReady, bounds, pending-within, thief-ready, worker-tail-in-range}
 use Rattle.machine.proofs.Laws.Hidden.{drained-hidden, hidden-most, thief-hidden, told, worker-hidden}
 use Rattle.machine.proofs.Laws.Obey.{obey-by}
-use Rattle.machine.proofs.Laws.Moves.{move-fits, named-there, stolen, thief-moves, thiefsMove, worked, worker-moves, workersMove}
+use Rattle.machine.proofs.Laws.Moves.{move-fits, there-by-number, thief-moves, thiefEntryMove, worked, worker-moves, workerEntryMove}
 use Rattle.machine.proofs.machine.Machine.obey.Statement.{statement}
 use Rattle.machine.proofs.machine.Machine.obey.Tie as tie
 
 -- ── Before the entry ────────────────────────────────────────────────────────────────────────────────────────────────────────
 
--- the machine and the entry that were handed in
+-- the machine and the entry that were handed in, and the lengths of its arrays
 
 abbrev given-machine : tie.Else1 → Machine
-given-machine c = c .before .before .before .before .before .before .before .before .args .self
+given-machine c = c .before .before .before .before .before .before .before .before .before .args .self
 
 abbrev given-entry : tie.Else1 → Entry
-given-entry c = c .before .before .before .before .before .before .before .before .args .entry
+given-entry c = c .before .before .before .before .before .before .before .before .before .args .entry
 
--- the test of machine and thief, as the definitions make it
-tested : (c : tie.After-struct-known)
-    → (c .before .before .look .result .ranged && c .before .thief-is-there .result)
-    ≡ (inRange (c .before .before .before .before .before .before .before .args .self) && thiefIsThere (c .before .before .before .before .before .before .before .args .self .sizes) (c .before .before .before .before .before .before .before .args .entry))
-tested c = λ i. c .before .before .look .ensures i .ranged && c .before .thief-is-there .ensures i
+stores-long : (c : tie.Else1) → length (given-machine c .buffer .stores) ≡ 64
+stores-long c = simp length-map at (c .before .before .before .before .before .before .before .before .before .good .0 .1 .1 .1 .1 .1 .1 .1 .0 .1 .1 .0 .1 .0 .1)
+
+thieves-long : (c : tie.Else1) → length (given-machine c .thieves) ≡ 8
+thieves-long c = simp length-map at (c .before .before .before .before .before .before .before .before .before .good .0 .1 .1 .1 .1 .1 .1 .1 .1 .1 .1 .0 .1 .0 .1)
+
+-- the test of machine and thief
+tested : (c : tie.After-struct-known2)
+    → (c .before .before .before .look .result .ranged && ltb (c .before .before .thief-of .result) (c .before .before .before .before .before .before .before .before .args .self .sizes .thieves))
+    ≡ (inRange (c .before .before .before .before .before .before .before .before .args .self) && ltb (thiefOf (c .before .before .before .before .before .before .before .before .args .entry)) (c .before .before .before .before .before .before .before .before .args .self .sizes .thieves))
+tested c = λ i. c .before .before .before .look .ensures i .ranged && ltb (c .before .before .thief-of .ensures i) (c .before .before .before .before .before .before .before .before .args .self .sizes .thieves)
 
 -- where it has passed
 
-passed : (c : tie.Else1) → (inRange (given-machine c) && thiefIsThere (given-machine c .sizes) (given-entry c)) ≡ true
-passed c = granted (tested (c .before)) (c .if1 .left)
+there : (c : tie.Else1) → ThiefReady (given-machine c) (thiefOf (given-entry c))
+there c = thief-ready (given-machine c) (thiefOf (given-entry c)) (granted (tested (c .before)) (c .if1 .left))
 
 ready : (c : tie.Else1) → inRange (given-machine c) ≡ true
-ready c = and-left (inRange (given-machine c)) (thiefIsThere (given-machine c .sizes) (given-entry c)) (passed c)
+ready c = there c .ready
 
 obeyed : (c : tie.Else1) → obey (given-machine c) (given-entry c) ≡ obeyInRange (given-machine c) (given-entry c)
-obeyed c = obey-by (given-machine c) (given-entry c) (passed c)
+obeyed c =
+    let m = given-machine c in
+    let e = given-entry c in
+    obey-by m e (sym (there-by-number m e) ∙ granted (tested (c .before)) (c .if1 .left))
 
-seen : (c : tie.Else1) → c .before .before .before .look .result ≡ look (given-machine c)
-seen c = c .before .before .before .look .ensures
+seen : (c : tie.Else1) → c .before .before .before .before .look .result ≡ look (given-machine c)
+seen c = c .before .before .before .before .look .ensures
 
 returns : tie.Need-returns
 returns c =
-    let start = c .before .before .before .before .before .before .before .before .before in
+    let start = c .before .before .before .before .before .before .before .before .before .before in
     let m = start .args .self in
-    told m m Wait (c .before .before .before .before .look .ensures) refl (c .refused .ensures) ∙ sym (obey-by m (start .args .entry) (denied (tested (c .before .before)) (c .before .if1 .taken)))
+    let e = start .args .entry in
+    told m m Wait (c .before .before .before .before .before .look .ensures) refl (c .refused .ensures) ∙ sym (obey-by m e (sym (there-by-number m e) ∙ denied (tested (c .before .before)) (c .before .if1 .taken)))
 
 -- ── The drain ───────────────────────────────────────────────────────────────────────────────────────────────────────────────
 
@@ -104,7 +115,7 @@ module _ (c : tie.Else2) where
 
   fewer : cond (lowersTail (drain-machine .tail) (oldest (drain-machine .buffer) .kind)) (hidden drain-machine - 1) (hidden drain-machine) ≡ hidden (drained drain-machine)
   fewer =
-      let long : length (drain-machine .buffer .stores) ≡ 64 = simp length-map at (drain-here .before .before .before .before .before .before .before .before .good .0 .1 .1 .1 .1 .1 .1 .1 .0 .1 .1 .0 .1 .0 .1) in
+      let long = stores-long drain-here in
       sym (drained-hidden drain-machine (ready drain-here) some (omega (arith, pending-within drain-machine (ready drain-here))))
 
 returns-3 : tie.Need-returns-3
@@ -132,7 +143,7 @@ returns-4 c =
     let dropped = c .before .before .before .before .before .before .before .drop-oldest in
     let same = other-store (m .sizes .slots) (m .slots) (dropped .result .oldest .kind) (c .before .before .match2 .keys2) ∙ ap (λ d. slotsAfter (m .sizes .slots) (m .slots) (d .oldest .kind)) (dropped .ensures) in
     simp (
-      c .drained .ensures,
+      c .drained-to-tail .ensures,
       c .before .tail-after .ensures,
       c .before .before .before .fewer-if .ensures,
       c .before .before .before .before .lowers-tail .ensures,
@@ -147,7 +158,7 @@ returns-4 c =
 worker-view-requires : tie.Need-worker-view-requires
 worker-view-requires c κs =
     let here = c .before .before .before in
-    (ready here, c .before .before .before .before .before .before .before .before .copied .ensures, ap (λ s. s .tail) (seen here))
+    (ready here, c .before .before .before .before .before .before .before .before .before .copied .ensures, ap (λ s. s .tail) (seen here))
 
 -- what the worker sees of a machine in range is in range
 view-in-range : (m : Machine) → inRange m ≡ true → WorkerViewInRange (workerView m (m .worker .call))
@@ -160,46 +171,45 @@ worker-entry-requires c κs =
 
 -- Where the worker's entry has been decided: its machine and entry, and that the step is its move.
 
-abbrev worker-here : tie.After-refuses → tie.Else1
+abbrev worker-here : tie.After-is-refusal → tie.Else1
 worker-here c = c .before .before .before .before .before .before .before
 
-abbrev workers-move : tie.After-refuses → WorkerMove
-workers-move c = workersMove (given-machine (worker-here c)) (given-entry (worker-here c))
+abbrev worker-made : tie.After-is-refusal → WorkerMove
+worker-made c = workerEntryMove (given-machine (worker-here c)) (given-entry (worker-here c))
 
-abbrev spaced : tie.After-refuses → Spacing
-spaced c = spacingAfter (given-entry (worker-here c)) (workers-move c .push) (given-machine (worker-here c) .spacing)
+abbrev spaced : tie.After-is-refusal → Spacing
+spaced c = spacingAfter (given-entry (worker-here c)) (worker-made c .push) (given-machine (worker-here c) .spacing)
 
-abbrev worked-machine : tie.After-refuses → Machine
-worked-machine c = worked (given-machine (worker-here c)) (spaced c) (workers-move c)
+abbrev worked-machine : tie.After-is-refusal → Machine
+worked-machine c = worked (given-machine (worker-here c)) (spaced c) (worker-made c)
 
-workers : (c : tie.After-refuses) → c .before .worker-entry .result ≡ workers-move c
-workers c = c .before .worker-entry .ensures ∙ (λ i. workerEntry (c .before .before .too-early .ensures i) (given-entry (worker-here c)) (c .before .before .before .worker-view .ensures i))
+worker-made-is : (c : tie.After-is-refusal) → c .before .worker-entry .result ≡ worker-made c
+worker-made-is c = c .before .worker-entry .ensures ∙ (λ i. workerEntry (c .before .before .too-early .ensures i) (given-entry (worker-here c)) (c .before .before .before .worker-view .ensures i))
 
 -- refused or performed
-worker-told : (c : tie.After-refuses) {b : Bool} → c .refuses .result ≡ b
-    → cond b (done (workers-move c .outcome) (given-machine (worker-here c))) (done (workers-move c .outcome) (worked-machine c)) ≡ obey (given-machine (worker-here c)) (given-entry (worker-here c))
+worker-told : (c : tie.After-is-refusal) {b : Bool} → c .is-refusal .result ≡ b
+    → cond b (done (worker-made c .outcome) (given-machine (worker-here c))) (done (worker-made c .outcome) (worked-machine c)) ≡ obey (given-machine (worker-here c)) (given-entry (worker-here c))
 worker-told c tells =
     let here = worker-here c in
     let m = given-machine here in
-    sym (obeyed here ∙ worker-moves m (bounds m (ready here) .spacing) (given-entry here) (c .before .before .before .before .before .before .match .keys2) ∙ by-test _ _ (known (c .refuses .ensures ∙ ap (λ d. isRefusal (d .outcome)) (workers c)) tells))
+    sym (obeyed here ∙ worker-moves m (bounds m (ready here) .spacing) (given-entry here) (c .before .before .before .before .before .before .match .keys2) ∙ by-test _ _ (known (c .is-refusal .ensures ∙ ap (λ d. isRefusal (d .outcome)) (worker-made-is c)) tells))
 
 -- and the number for the machine after it
-worker-number : (c : tie.After-refuses)
-    → hiddenIf (spacingInRange (spaced c) && pushInRange (workers-move c .push) && workerInRange (workers-move c .call))
-    (cond (pushLowersTail (workerTail (given-machine (worker-here c))) (workers-move c .push)) (hidden (given-machine (worker-here c)) + 1) (hidden (given-machine (worker-here c))))
+worker-number : (c : tie.After-is-refusal)
+    → hiddenIf (spacingInRange (spaced c) && pushInRange (worker-made c .push) && workerInRange (worker-made c .call))
+    (cond (pushLowersTail (workerTail (given-machine (worker-here c))) (worker-made c .push)) (hidden (given-machine (worker-here c)) + 1) (hidden (given-machine (worker-here c))))
     ≡ hidden (worked-machine c)
 worker-number c =
     let here = worker-here c in
     let m = given-machine here in
-    let d = workers-move c in
-    let long : length (m .buffer .stores) ≡ 64 = simp length-map at (here .before .before .before .before .before .before .before .before .good .0 .1 .1 .1 .1 .1 .1 .1 .0 .1 .1 .0 .1 .0 .1) in
-    sym (worker-hidden m (ready here) (d .push) (spaced c) (d .lock .holder) (d .call) long (move-fits m (given-entry here)))
+    let d = worker-made c in
+    sym (worker-hidden m (ready here) (d .push) (spaced c) (d .lock .holder) (d .call) (stores-long here) (move-fits m (given-entry here)))
 
 returns-5 : tie.Need-returns-5
 returns-5 c =
     let from = c .before .before in
     let m = given-machine (worker-here from) in
-    told m m (from .before .worker-entry .result .outcome) (seen (worker-here from)) refl (c .refused3 .ensures) ∙ ap (λ d. done (d .outcome) m) (workers from) ∙ worker-told from (c .before .if3 .taken)
+    told m m (from .before .worker-entry .result .outcome) (seen (worker-here from)) refl (c .refused3 .ensures) ∙ ap (λ d. done (d .outcome) m) (worker-made-is from) ∙ worker-told from (c .before .if3 .taken)
 
 hidden-after-requires : tie.Need-hidden-after-requires
 hidden-after-requires c κs = let here = worker-here (c .before .before) in simp (seen here) (hidden-most (given-machine here) (ready here))
@@ -209,13 +219,13 @@ returns-6 c =
     let from = c .before .before .before .before .before .before in
     let here = worker-here from in
     let m = given-machine here in
-    let d = workers-move from in
+    let d = worker-made from in
     let fits = move-fits m (given-entry here) in
     simp (
-      c .stored .ensures,
+      c .worker-moved-storing .ensures,
       c .before .before .before .hidden-after .ensures,
       c .before .before .before .before .spacing-after .ensures,
-      workers from,
+      worker-made-is from,
       seen here,
       pushed-free (d .push) (m .buffer) (fits-more (d .push) (m .buffer .count) (bounds m (ready here) .sizes .buffer-most) fits),
     )
@@ -225,13 +235,13 @@ returns-7 : tie.Need-returns-7
 returns-7 c =
     let from = c .before .before .before .before .before .before in
     let m = given-machine (worker-here from) in
-    let d = workers-move from in
-    let none : Nothing ≡ d .push = sym (c .before .enum-told4 .given .1) ∙ ap (λ d. d .push) (workers from) in
+    let d = worker-made from in
+    let none : Nothing ≡ d .push = sym (c .before .enum-told4 .given .1) ∙ ap (λ d. d .push) (worker-made-is from) in
     simp (
-      c .stepped .ensures,
+      c .worker-moved .ensures,
       c .before .before .before .hidden-after .ensures,
       c .before .before .before .before .spacing-after .ensures,
-      workers from,
+      worker-made-is from,
       seen (worker-here from),
     )
     ((λ i. handing (d .outcome) (worker-number from i) (withWorker (d .call) (withLock (d .lock .holder) (withSpacing (spaced from) (withBuffer (pushedIn (none i) (m .buffer)) m)))))
@@ -239,78 +249,72 @@ returns-7 c =
 
 -- ── A thief ─────────────────────────────────────────────────────────────────────────────────────────────────────────────────
 
--- the thief has a cell in the array, and its call is in range
-thief : (c : tie.After-thief-of) → ThiefReady (given-machine (c .before .before)) (thiefOf (given-entry (c .before .before)))
-thief c =
-    let here = c .before .before in
-    let m = given-machine here in
-    let e = given-entry here in
-    thief-ready m (thiefOf e) (ap (λ t. inRange m && t) (sym (named-there (m .sizes) e (c .before .match .keys3))) ∙ passed here)
-
 mul-found : tie.Need-mul-found
-mul-found c = simp (c .thief-of .ensures) (omega (arith, thief c .below))
+mul-found c = let here = c .before in simp (here .before .before .before .thief-of .ensures) (omega (arith, there here .below))
 
 array-copy-out-found : tie.Need-array-copy-out-found
-array-copy-out-found c = simp (c .thief-of .ensures) (thief c .below)
+array-copy-out-found c = let here = c .before in simp (here .before .before .before .thief-of .ensures) (there here .below)
 
 thief-view-requires : tie.Need-thief-view-requires
-thief-view-requires c κs = (ready (c .before .before .before), refl)
+thief-view-requires c κs = (ready (c .before .before), refl)
 
 thief-entry-requires : tie.Need-thief-entry-requires
 thief-entry-requires c κs =
-    let r = thief (c .before .before) in
-    simp (c .thief-view .ensures, c .before .before .thief-of .ensures) (record { tail = bounds (given-machine (c .before .before .before .before)) (r .ready) .tail; call = r .call })
+    let here = c .before .before .before in
+    let r = there here in
+    simp (c .thief-view .ensures, here .before .before .before .thief-of .ensures) (record { tail = bounds (given-machine here) (r .ready) .tail; call = r .call })
 
 -- Where the thief's entry has been decided.
 
-abbrev thief-here : tie.After-refuses2 → tie.Else1
-thief-here c = c .before .before .before .before .before .before
+abbrev thief-here : tie.After-is-refusal2 → tie.Else1
+thief-here c = c .before .before .before .before .before
 
-abbrev thiefs-move : tie.After-refuses2 → ThiefMove
-thiefs-move c = thiefsMove (given-machine (thief-here c)) (given-entry (thief-here c))
+abbrev thief-made : tie.After-is-refusal2 → ThiefMove
+thief-made c = thiefEntryMove (given-machine (thief-here c)) (given-entry (thief-here c))
 
-abbrev stolen-machine : tie.After-refuses2 → Machine
-stolen-machine c = stolen (given-machine (thief-here c)) (thiefOf (given-entry (thief-here c))) (thiefs-move c)
+abbrev thief-moved-machine : tie.After-is-refusal2 → Machine
+thief-moved-machine c = performThief (thiefOf (given-entry (thief-here c))) (given-machine (thief-here c)) (thief-made c) .machine
 
-thiefs : (c : tie.After-refuses2) → c .before .thief-entry .result ≡ thiefs-move c
-thiefs c =
-    let m = given-machine (thief-here c) in
-    c .before .thief-entry .ensures ∙ ap (thiefEntry (given-entry (thief-here c))) (c .before .before .thief-view .ensures ∙ ap (λ i. thiefView m i (thiefCall m i)) (c .before .before .before .before .thief-of .ensures))
+thief-made-is : (c : tie.After-is-refusal2) → c .before .thief-entry .result ≡ thief-made c
+thief-made-is c =
+    let here = thief-here c in
+    let m = given-machine here in
+    c .before .thief-entry .ensures ∙ ap (thiefEntry (given-entry here)) (c .before .before .thief-view .ensures ∙ ap (λ i. thiefView m i (thiefCall m i)) (here .before .before .before .thief-of .ensures))
 
-thief-told : (c : tie.After-refuses2) {b : Bool} → c .refuses2 .result ≡ b
-    → cond b (done (thiefs-move c .outcome) (given-machine (thief-here c))) (done (thiefs-move c .outcome) (stolen-machine c)) ≡ obey (given-machine (thief-here c)) (given-entry (thief-here c))
+thief-told : (c : tie.After-is-refusal2) {b : Bool} → c .is-refusal2 .result ≡ b
+    → cond b (done (thief-made c .outcome) (given-machine (thief-here c))) (done (thief-made c .outcome) (thief-moved-machine c)) ≡ obey (given-machine (thief-here c)) (given-entry (thief-here c))
 thief-told c tells =
     let here = thief-here c in
-    sym (obeyed here ∙ thief-moves (given-machine here) (given-entry here) (c .before .before .before .before .before .match .keys3) ∙ by-test _ _ (known (c .refuses2 .ensures ∙ ap (λ d. isRefusal (d .outcome)) (thiefs c)) tells))
+    sym (obeyed here ∙ thief-moves (given-machine here) (given-entry here) (c .before .before .before .before .match .keys3) ∙ by-test _ _ (known (c .is-refusal2 .ensures ∙ ap (λ d. isRefusal (d .outcome)) (thief-made-is c)) tells))
 
 returns-8 : tie.Need-returns-8
 returns-8 c =
     let from = c .before .before in
     let m = given-machine (thief-here from) in
-    told m m (from .before .thief-entry .result .outcome) (seen (thief-here from)) refl (c .refused4 .ensures) ∙ ap (λ d. done (d .outcome) m) (thiefs from) ∙ thief-told from (c .before .if4 .taken)
+    told m m (from .before .thief-entry .result .outcome) (seen (thief-here from)) refl (c .refused4 .ensures) ∙ ap (λ d. done (d .outcome) m) (thief-made-is from) ∙ thief-told from (c .before .if4 .taken)
 
-stolen-requires : tie.Need-stolen-requires
-stolen-requires c κs = let from = c .before .before .before .before .before .before .before .before .before in simp (from .thief-of .ensures) (thief from .below)
+thief-moved-requires : tie.Need-thief-moved-requires
+thief-moved-requires c κs = let here = c .before .before .before .before .before .before .before .before .before .before in simp (here .before .before .before .thief-of .ensures) (there here .below)
 
 returns-9 : tie.Need-returns-9
 returns-9 c =
     let from = c .before .before .before .before .before .before in
     let here = thief-here from in
     let m = given-machine here in
-    let d = thiefs-move from in
-    let r = thief (from .before .before .before .before) in
-    let eight : length (m .thieves) ≡ 8 = simp length-map at (here .before .before .before .before .before .before .before .before .good .0 .1 .1 .1 .1 .1 .1 .1 .1 .1 .1 .0 .1 .0 .1) in
+    let d = thief-made from in
+    let r = there here in
+    let eight = thieves-long here in
     let same = sym (thief-hidden m (r .ready) (thiefOf (given-entry here)) (d .head) (d .lock .holder) (d .call) (omega (arith, r .below))) in
     simp (
-      c .stolen .ensures,
+      c .thief-moved .ensures,
       c .before .hidden-if .ensures,
       c .before .before .in-range2 .ensures,
       c .before .before .before .in-range .ensures,
-      thiefs from,
-      from .before .before .before .before .thief-of .ensures,
+      thief-made-is from,
+      here .before .before .before .thief-of .ensures,
       seen here,
     )
-    (ap (λ h. handing (d .outcome) h (stolen-machine from)) same ∙ thief-told from (c .before .before .before .before .before .if4 .left))
+    (ap (λ h. handing (d .outcome) h (thief-moved-machine from)) same ∙ thief-told from (c .before .before .before .before .before .if4 .left))
 
 pub obey-spec : {M : Type 1} → statement M
 obey-spec =
@@ -347,7 +351,6 @@ obey-spec =
     (λ c. search needs)
     (λ c κs. search needs)
     returns-7
-    (λ c κs. search needs)
     (λ c. search needs)
     mul-found
     array-copy-out-found
@@ -359,5 +362,5 @@ obey-spec =
     (λ c κs. search needs)
     (λ c κs. search needs)
     (λ c κs. search needs)
-    stolen-requires
+    thief-moved-requires
     returns-9)

@@ -11,8 +11,8 @@ use Rattle.terms.proofs.Laws.Tests.{known}
 use Rattle.machine.specs.Types.{Entry, Drain, ClientStore, BeginPut, BeginTake, WorkerStep, BeginSteal, ThiefStep, Wait, WorkerView}
 use Rattle.machine.specs.Worker.{stays}
 use Rattle.machine.specs.Moves.{workerEntry}
-use Rattle.machine.proofs.worker.worker_entry.Statement.{statement}
-use Rattle.machine.proofs.worker.worker_entry.Tie as tie
+use Rattle.machine.proofs.moves.worker_entry.Statement.{statement}
+use Rattle.machine.proofs.moves.worker_entry.Tie as tie
 
 -- the entries that are not the worker's, by the numbers of their variants
 abbrev others : List ℕ

@@ -9,8 +9,8 @@ use Rattle.terms.proofs.entry.Entry.{the-type}
 use Rattle.stores.specs.Spacing.{countedInOrSame}
 use Rattle.machine.specs.Types.{Entry, Drain, ClientStore, BeginPut, BeginTake, WorkerStep, BeginSteal, ThiefStep, Push, Spacing}
 use Rattle.machine.specs.Moves.{spacingAfter}
-use Rattle.machine.proofs.worker.spacing_after.Statement.{statement}
-use Rattle.machine.proofs.worker.spacing_after.Tie as tie
+use Rattle.machine.proofs.moves.spacing_after.Statement.{statement}
+use Rattle.machine.proofs.moves.spacing_after.Tie as tie
 
 -- the entries that begin no take, by the numbers of their variants
 abbrev others : List ℕ

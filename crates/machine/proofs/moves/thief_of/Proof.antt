@@ -7,8 +7,8 @@ use Rattle.terms.specs.Lists.{rangeFrom}
 use Rattle.terms.proofs.entry.Entry.{the-type}
 use Rattle.machine.specs.Types.{Entry, Drain, ClientStore, BeginPut, BeginTake, WorkerStep, BeginSteal, ThiefStep}
 use Rattle.machine.specs.Moves.{thiefOf}
-use Rattle.machine.proofs.obey.thief_of.Statement.{statement}
-use Rattle.machine.proofs.obey.thief_of.Tie as tie
+use Rattle.machine.proofs.moves.thief_of.Statement.{statement}
+use Rattle.machine.proofs.moves.thief_of.Tie as tie
 
 none-named : (entry : Entry) → OneOf (rangeFrom 0 5) (tagOf the-type entry) → 0 ≡ thiefOf entry
 none-named Drain keys = refl

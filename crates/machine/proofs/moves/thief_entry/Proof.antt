@@ -10,8 +10,8 @@ use Rattle.machine.specs.Types.{Entry, Drain, ClientStore, BeginPut, Beg
 use Rattle.machine.specs.Thief.{stays, thiefRuns}
 use Rattle.machine.specs.Moves.{thiefEntry}
 use Rattle.machine.proofs.thief.ThiefCall.{the-type as call-type}
-use Rattle.machine.proofs.thief.thief_entry.Statement.{statement}
-use Rattle.machine.proofs.thief.thief_entry.Tie as tie
+use Rattle.machine.proofs.moves.thief_entry.Statement.{statement}
+use Rattle.machine.proofs.moves.thief_entry.Tie as tie
 
 -- a call that is not the first variant runs
 later-runs : (call : ThiefCall) → OneOf (rangeFrom 1 8) (tagOf call-type call) → true ≡ thiefRuns call

@@ -1,0 +1,102 @@
+use crate::thief::ThiefCall;
+use crate::thief::ThiefMove;
+use crate::thief::ThiefView;
+use crate::thief::thief_move;
+use crate::worker::WorkerCall;
+use crate::worker::WorkerMove;
+use crate::worker::WorkerView;
+use crate::worker::worker_move;
+use stores::Maker;
+use stores::Push;
+use stores::Spacing;
+use stores::StoreKind;
+use terms::Entry;
+use terms::Outcome;
+ghost use mathlib.Core.Path.{_≡_};
+ghost use Rattle.machine.specs.Moves.{spacingAfter, thiefEntry, thiefOf, workerEntry};
+ghost use Rattle.machine.specs.Thief.{ThiefViewInRange};
+ghost use Rattle.machine.specs.Worker.{WorkerViewInRange};
+
+// What an entry of the worker's does, by whether a take would be too early.
+pub(crate) fn worker_entry(view: WorkerView, entry: Entry, early: bool) -> WorkerMove
+    requires { ⌜ WorkerViewInRange view ⌝ }
+    ensures { λ r. ⌜ r ≡ workerEntry early entry view ⌝ }
+{
+    let call = view.call;
+    match entry {
+        Entry::WorkerStep => return worker_move(view),
+        Entry::ClientStore => {
+            if call.runs() {
+                return view.stays(Outcome::Place);
+            }
+            let made = Push::One(Maker::TheClient, StoreKind::Client);
+            return view.stores(made, Outcome::Moved, call);
+        }
+        Entry::BeginPut(task) => {
+            if call.runs() {
+                return view.stays(Outcome::Place);
+            }
+            return view.goes_on(WorkerCall::PutLoadHead(task));
+        }
+        Entry::BeginTake => {
+            if call.runs() {
+                return view.stays(Outcome::Place);
+            }
+            if early {
+                return view.stays(Outcome::Early);
+            }
+            return view.goes_on(WorkerCall::TakeStoreTail);
+        }
+        Entry::Drain | Entry::BeginSteal(_) | Entry::ThiefStep(_) => return view.stays(
+            Outcome::Wait,
+        ),
+    }
+}
+
+// What the spacing rule goes by after an entry of the worker's that is not refused, with the store that it makes, if it makes one.
+pub(crate) fn spacing_after(spacing: Spacing, entry: Entry, made: Push) -> Spacing
+    ensures { λ r. ⌜ r ≡ spacingAfter entry made spacing ⌝ }
+{
+    if let Entry::BeginTake = entry {
+        Spacing::take_begins()
+    } else {
+        spacing.counted_in(made)
+    }
+}
+
+// The thief that an entry names; the first, which is always there, where it names none.
+pub(crate) fn thief_of(entry: Entry) -> u32
+    ensures { λ r. ⌜ r ≡ thiefOf entry ⌝ }
+{
+    match entry {
+        Entry::Drain
+        | Entry::ClientStore
+        | Entry::BeginPut(_)
+        | Entry::BeginTake
+        | Entry::WorkerStep => 0,
+        Entry::BeginSteal(beginner) => beginner,
+        Entry::ThiefStep(stepper) => stepper,
+    }
+}
+
+// What an entry of the thief's does that sees this.
+pub(crate) fn thief_entry(view: ThiefView, entry: Entry) -> ThiefMove
+    requires { ⌜ ThiefViewInRange view ⌝ }
+    ensures { λ r. ⌜ r ≡ thiefEntry entry view ⌝ }
+{
+    match entry {
+        Entry::ThiefStep(_) => return thief_move(view),
+        Entry::BeginSteal(_) => {
+            let call = view.call;
+            if let ThiefCall::Idle = call {
+                return view.goes_on(ThiefCall::StealLock);
+            }
+            return view.stays(Outcome::Place);
+        }
+        Entry::Drain
+        | Entry::ClientStore
+        | Entry::BeginPut(_)
+        | Entry::BeginTake
+        | Entry::WorkerStep => return view.stays(Outcome::Wait),
+    }
+}
