@@ -37,7 +37,7 @@ thiefOf WorkerStep = 0
 thiefOf (BeginSteal i) = i
 thiefOf (ThiefStep i) = i
 
--- an entry of the thief that sees this
+-- an entry of a thief's, from what that thief sees
 abbrev pub thiefEntry : Entry → ThiefView → ThiefMove
 thiefEntry (BeginSteal i) v = cond (thiefRuns (v .call)) (thiefStays Place v) (thiefGoesOn StealLock v)
 thiefEntry (ThiefStep i) v = thiefMove (v .call) v

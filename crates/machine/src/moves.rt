@@ -79,7 +79,7 @@ pub(crate) fn thief_of(entry: Entry) -> u32
     }
 }
 
-// What an entry of the thief's does that sees this.
+// What an entry of a thief's does, from what that thief sees.
 pub(crate) fn thief_entry(view: ThiefView, entry: Entry) -> ThiefMove
     requires { ⌜ ThiefViewInRange view ⌝ }
     ensures { λ r. ⌜ r ≡ thiefEntry entry view ⌝ }

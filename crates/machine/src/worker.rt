@@ -91,27 +91,6 @@ pub struct WorkerMove {
 }
 
 impl WorkerCall {
-    // The same, case by case: an enum that is copied whole takes its padding along, through every step of an entry (`docs/ARCHITECTURE.md`, "Where a run's time goes").
-    pub(crate) fn copied(self) -> WorkerCall
-        ensures { λ r. ⌜ r ≡ self ⌝ }
-    {
-        match self {
-            WorkerCall::Idle => WorkerCall::Idle,
-            WorkerCall::PutLoadHead(task) => WorkerCall::PutLoadHead(task),
-            WorkerCall::PutStoreSlot(task) => WorkerCall::PutStoreSlot(task),
-            WorkerCall::PutStoreTail => WorkerCall::PutStoreTail,
-            WorkerCall::TakeStoreTail => WorkerCall::TakeStoreTail,
-            WorkerCall::TakeLoadHead(t) => WorkerCall::TakeLoadHead(t),
-            WorkerCall::TakeLoadSlot(t) => WorkerCall::TakeLoadSlot(t),
-            WorkerCall::TakeLock(t) => WorkerCall::TakeLock(t),
-            WorkerCall::TakeReloadHead(t) => WorkerCall::TakeReloadHead(t),
-            WorkerCall::TakeRestoreTail(t) => WorkerCall::TakeRestoreTail(t),
-            WorkerCall::TakeUnlockEmpty => WorkerCall::TakeUnlockEmpty,
-            WorkerCall::TakeUnlockTask(t) => WorkerCall::TakeUnlockTask(t),
-            WorkerCall::TakeLoadLastSlot(t) => WorkerCall::TakeLoadLastSlot(t),
-        }
-    }
-
     // Whether every index that the call holds is in range.
     pub(crate) fn in_range(self) -> bool
         ensures { λ r. ⌜ r ≡ workerInRange self ⌝ }
