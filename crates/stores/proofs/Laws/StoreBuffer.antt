@@ -7,6 +7,8 @@ use Prim.Native.Nat.{ℕ, suc, _+_, _-_, _≤_, _<_, zero-le}
 use native.Mathlib.Nat.{add-zero}
 use native.Mathlib.Numerals.{add-one}
 use native.Mathlib.Omega.{arith}
+use types.Run.{OneOf, miss}
+use denote.Enum.Declared.{tagOf}
 use lib.Dec.{ltb}
 use lib.ListN.{length, getD, drop, take, length-drop, length-set, length-take}
 use lib.Seq.{take-at, take-suc, take-suc-set}
@@ -17,6 +19,7 @@ use Rattle.terms.proofs.Laws.Lists.{&&-true, all-snoc, getD-set, take-first, ta
 use Rattle.stores.specs.Types.{Index, Push, Nothing, One, Scan, Store, StoreBuffer, StoreKind, Client, Tail, Slot}
 use Rattle.stores.specs.Index.{indexInRange, slotOf}
 use Rattle.stores.specs.StoreBuffer.{clientStore, dropOldest, dropOldestOrSame, lowersTail, newestInSlot, newestTail, oldest, pending, push, pushInRange, pushLowersTail, pushOrSame, pushedIn, pushedOrSame, scan, scanned, slotAfter, slotsAfter, storeInRange, tailAfter, takeStores}
+use Rattle.stores.proofs.store_buffer.StoreKind.{the-type}
 
 -- the store that a step makes, if it makes one, has a place behind n stores, where there are so many
 abbrev pub pushFits : ℕ → Push → ℕ → Type 0
@@ -145,6 +148,20 @@ module _ (b : StoreBuffer) (some : 0 < b .count) (within : b .count ≤ length (
   drain-newestInSlot n k slots there =
       ap (λ v. newestInSlot n k v (dropOldest b)) (slotsAfter-slotAfter n k slots (oldest b .kind) there)
       ∙ dropOldest-foldl (λ u s. slotAfter n k u (s .kind)) (getD slots k 0) b some within
+
+-- ── What a store leaves alone, by its kind ──────────────────────────────────────────────────────────────────────────────────
+
+-- a slot store the tail
+pub slot-store-leaves : (t : Index) (k : StoreKind) → OneOf (2 ∷ []) (tagOf the-type k) → t ≡ tailAfter t k
+slot-store-leaves t (Slot x i) keys = refl
+slot-store-leaves t Client keys = absurd (miss (2 ∷ []) 0 tt keys)
+slot-store-leaves t (Tail u) keys = absurd (miss (2 ∷ []) 1 tt keys)
+
+-- any other the slots
+pub other-store-leaves : (n : ℕ) (slots : List ℕ) (k : StoreKind) → OneOf (0 ∷ 1 ∷ []) (tagOf the-type k) → slots ≡ slotsAfter n slots k
+other-store-leaves n slots Client keys = refl
+other-store-leaves n slots (Tail u) keys = refl
+other-store-leaves n slots (Slot x i) keys = absurd (miss (0 ∷ 1 ∷ []) 2 tt keys)
 
 -- ── What one pass finds ─────────────────────────────────────────────────────────────────────────────────────────────────────
 

@@ -1,10 +1,7 @@
 -- `Machine::obey` meets its contract: where the machine is in range and the thief there, each party's entry is what its move comes to.
 use mathlib.Core.Path.{_≡_, refl, ap, sym, _∙_}
-use mathlib.Core.List.{List, _∷_, []}
 use mathlib.Core.Bool.{Bool, true, cond, not, _&&_}
-use Prim.Native.Nat.{ℕ, _+_, _-_, _<_}
-use types.Run.{OneOf, miss}
-use denote.Enum.Declared.{tagOf}
+use Prim.Native.Nat.{_+_, _-_, _<_}
 use native.Mathlib.Omega.{arith}
 use borrow.Author.Needs.{needs}
 use borrow.Author.Tests.{eq-eqb, ne-eqb}
@@ -14,9 +11,8 @@ use Rattle.terms.specs.Outcome.{isRefusal}
 use Rattle.terms.proofs.Laws.Tests.{by-test, denied, granted, known}
 use Rattle.stores.specs.StoreBuffer.{dropOldest, lowersTail, oldest, pushInRange, pushLowersTail, pushedIn, slotsAfter, tailAfter}
 use Rattle.stores.specs.Spacing.{spacingInRange}
-use Rattle.stores.proofs.Laws.StoreBuffer.{dropOldest-some, fits-more, pushed-free}
-use Rattle.stores.proofs.store_buffer.StoreKind.{the-type}
-use Rattle.machine.specs.Types.{Client, Tail, Slot, Entry, Index, Machine, Moved, Nothing, Spacing, StoreKind, ThiefMove, Wait, WorkerMove}
+use Rattle.stores.proofs.Laws.StoreBuffer.{dropOldest-some, fits-more, other-store-leaves, pushed-free, slot-store-leaves}
+use Rattle.machine.specs.Types.{Entry, Machine, Moved, Nothing, Spacing, ThiefMove, Wait, WorkerMove}
 use Rattle.machine.specs.InRange.{inRange}
 use Rattle.machine.specs.Machine.{done, handing, hidden, hiddenIf, look, thiefCall, workerTail}
 use Rattle.machine.specs.Worker.{WorkerViewInRange, workerInRange}
@@ -87,18 +83,6 @@ returns-2 c =
     told m m Wait (seen here) refl (c .refused2 .ensures)
     ∙ sym (obeyed here ∙ ap (obeyInRange m) (c .before .before .before .before .before .enum-told .given .1) ∙ by-test _ _ (ap not (eq-eqb _ _ (c .before .if2 .taken))))
 
--- a slot store leaves the tail as it was, and any other the slots
-
-slot-store : (t : Index) (k : StoreKind) → OneOf (2 ∷ []) (tagOf the-type k) → t ≡ tailAfter t k
-slot-store t (Slot x i) keys = refl
-slot-store t Client keys = absurd (miss (2 ∷ []) 0 tt keys)
-slot-store t (Tail u) keys = absurd (miss (2 ∷ []) 1 tt keys)
-
-other-store : (n : ℕ) (slots : List ℕ) (k : StoreKind) → OneOf (0 ∷ 1 ∷ []) (tagOf the-type k) → slots ≡ slotsAfter n slots k
-other-store n slots Client keys = refl
-other-store n slots (Tail u) keys = refl
-other-store n slots (Slot x i) keys = absurd (miss (0 ∷ 1 ∷ []) 2 tt keys)
-
 -- what a drain comes to, where a store is pending
 module _ (c : tie.Else2) where
   abbrev drain-here : tie.Else1
@@ -124,7 +108,7 @@ returns-3 c =
     let m = drain-machine from in
     let k = oldest (m .buffer) .kind in
     let dropped = c .before .before .before .before .before .before .before .drop-oldest in
-    let same = slot-store (m .tail) (dropped .result .oldest .kind) (c .before .before .match2 .keys1) ∙ ap (λ d. tailAfter (m .tail) (d .oldest .kind)) (dropped .ensures) in
+    let same = slot-store-leaves (m .tail) (dropped .result .oldest .kind) (c .before .before .match2 .keys1) ∙ ap (λ d. tailAfter (m .tail) (d .oldest .kind)) (dropped .ensures) in
     simp (
       c .drained-to-slot .ensures,
       c .before .before .before .fewer-if .ensures,
@@ -141,7 +125,7 @@ returns-4 c =
     let m = drain-machine from in
     let k = oldest (m .buffer) .kind in
     let dropped = c .before .before .before .before .before .before .before .drop-oldest in
-    let same = other-store (m .sizes .slots) (m .slots) (dropped .result .oldest .kind) (c .before .before .match2 .keys2) ∙ ap (λ d. slotsAfter (m .sizes .slots) (m .slots) (d .oldest .kind)) (dropped .ensures) in
+    let same = other-store-leaves (m .sizes .slots) (m .slots) (dropped .result .oldest .kind) (c .before .before .match2 .keys2) ∙ ap (λ d. slotsAfter (m .sizes .slots) (m .slots) (d .oldest .kind)) (dropped .ensures) in
     simp (
       c .drained-to-tail .ensures,
       c .before .tail-after .ensures,

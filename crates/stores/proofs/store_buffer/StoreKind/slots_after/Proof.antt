@@ -1,23 +1,12 @@
 -- `StoreKind::slots_after` meets its contract, kind by kind. A slot beyond the array is not written.
-use mathlib.Core.Path.{_≡_, refl, sym}
-use mathlib.Core.List.{List, [], _∷_}
-use Prim.Native.Nat.{ℕ}
-use types.Run.{OneOf, miss}
-use denote.Enum.Declared.{tagOf}
+use mathlib.Core.Path.{_≡_, sym}
 use native.Mathlib.Omega.{arith}
 use lib.ListN.{length}
 use lib.Seq.{set-out}
 use borrow.Author.Needs.{needs}
-use Rattle.stores.specs.Types.{StoreKind, Client, Tail, Slot}
-use Rattle.stores.specs.StoreBuffer.{slotsAfter}
-use Rattle.stores.proofs.store_buffer.StoreKind.{the-type}
+use Rattle.stores.proofs.Laws.StoreBuffer.{other-store-leaves}
 use Rattle.stores.proofs.store_buffer.StoreKind.slots_after.Statement.{statement}
 use Rattle.stores.proofs.store_buffer.StoreKind.slots_after.Tie as tie
-
-left : (count : ℕ) (slots : List ℕ) (k : StoreKind) → OneOf (0 ∷ 1 ∷ []) (tagOf the-type k) → slots ≡ slotsAfter count slots k
-left count slots Client keys = refl
-left count slots (Tail t) keys = refl
-left count slots (Slot x i) keys = absurd (miss (0 ∷ 1 ∷ []) 2 tt keys)
 
 returns : tie.Need-returns
 returns c = simp (c .before .slot-of .ensures, c .before .before .before .self .given .1)
@@ -29,7 +18,7 @@ returns-2 c =
     simp (c .before .before .before .self .given .1, sym (c .before .slot-of .ensures)) (sym (set-out (start .args .t3) (c .before .slot-of .result) _ (omega arith)))
 
 returns-3 : tie.Need-returns-3
-returns-3 c = left (c .before .args .count) _ (c .before .args .self) (c .match .keys2)
+returns-3 c = other-store-leaves (c .before .args .count) _ (c .before .args .self) (c .match .keys2)
 
 pub slots-after-spec : {M : Type 1} → statement M
 slots-after-spec =
