@@ -3,13 +3,12 @@
 use mathlib.Core.Path.{_≡_, refl, ap, sym, _∙_}
 use mathlib.Core.Bool.{true, false}
 use mathlib.Core.List.{List, [], map}
-use Prim.Native.Nat.{ℕ}
 use native.Mathlib.Nat.{le-refl}
 use lib.ListN.{length}
 use Rattle.terms.specs.Lists.{all}
 use Rattle.terms.specs.Outcome.{isAnswer, isRefusal}
 use Rattle.claim.specs.Types.{Outcome, Sizes}
-use Rattle.claim.specs.PlainQueue.{Told, PlainQueue, withinLimits}
+use Rattle.claim.specs.PlainQueue.{Limits, Told, PlainQueue, withinLimits}
 use Rattle.claim.specs.Calls.{Begun, Effect, Party, callAfter, sameParty}
 use Rattle.claim.specs.Implementation.{Implementation}
 use Rattle.claim.specs.Watch.{Watch, callAt, toldAt, watchAfter, watchFresh}
@@ -21,18 +20,18 @@ use Rattle.claim.proofs.Turn.{Turn, refuses, toldIn}
 
 -- What a party's call on a machine was begun as, and what holds of a machine and the plain queue beside it.
 module _ {M E : Type 0} (b : Implementation M E) (begun : M → Party → Begun) (State : M → PlainQueue → Type 0) where
-  -- An entry of party p that begins `next`, has the effect f and the outcome o, and leaves the machine m′, of n slots, where the party's call has been
+  -- An entry of party p that begins `next`, has the effect f and the outcome o, and leaves the machine m′, where the party's call has been
   -- begun as c and owes what it owes.
-  pub record EntryTurn (n : ℕ) (m : M) (q : PlainQueue) (p : Party) (c : Begun) (owed : List Outcome) (next : Begun) (f : Effect) (o : Outcome) (m′ : M) : Type 0 where
+  pub record EntryTurn (l : Limits) (m : M) (q : PlainQueue) (p : Party) (c : Begun) (owed : List Outcome) (next : Begun) (f : Effect) (o : Outcome) (m′ : M) : Type 0 where
     pub told : List Told
     pub told-is : told ≡ toldIn c o f
     -- no other party's call changes
     pub others : (r : Party) → sameParty r p ≡ false → (begun m′ r ≡ begun m r) × (b .owes m′ r ≡ b .owes m r)
-    pub turn : Turn (b .isTold) n c owed q told o next (begun m′ p) (b .owes m′ p) (State m′)
+    pub turn : Turn (b .isTold) l c owed q told o next (begun m′ p) (b .owes m′ p) (State m′)
 
   -- an entry that is refused and changes nothing
-  pub waits : {n : ℕ} {m : M} {q : PlainQueue} {p : Party} {next : Begun} {f : Effect} {o : Outcome} → isRefusal o ≡ true → isAnswer o ≡ false → State m q
-      → EntryTurn n m q p (begun m p) (b .owes m p) next f o m
+  pub waits : {l : Limits} {m : M} {q : PlainQueue} {p : Party} {next : Begun} {f : Effect} {o : Outcome} → isRefusal o ≡ true → isAnswer o ≡ false → State m q
+      → EntryTurn l m q p (begun m p) (b .owes m p) next f o m
   waits refusal no-answer v =
       record { told = []; told-is = rw refusal; others = λ r other. (refl, refl); turn = refuses refusal no-answer refl refl v }
 
@@ -48,11 +47,11 @@ module _ {M E : Type 0} (b : Implementation M E) (begun : M → Party → Begun)
     -- every entry shows its turn
     abbrev pub Turns : Type 0
     Turns = (m : M) (q : PlainQueue) → State m q → (e : E)
-        → EntryTurn (lawful .sizes m .slots) m q (b .party e) (begun m (b .party e)) (b .owes m (b .party e)) (b .begins e) (b .effect m e) (b .outcome m e) (b .next m e)
+        → EntryTurn (b .limits (lawful .sizes m)) m q (b .party e) (begun m (b .party e)) (b .owes m (b .party e)) (b .begins e) (b .effect m e) (b .outcome m e) (b .next m e)
 
     module _ (turns : Turns) {s : Sizes} {w : Watch M} (v : Invariant s w) (e : E) where
       by-turn :
-          Turned (b .isTold) (lawful .sizes (w .machine) .slots) (w .calls (b .party e)) (w .queue) (toldAt b w e) (b .outcome (w .machine) e) (b .begins e)
+          Turned (b .isTold) (b .limits (lawful .sizes (w .machine))) (w .calls (b .party e)) (w .queue) (toldAt b w e) (b .outcome (w .machine) e) (b .begins e)
           (begun (b .next (w .machine) e) (b .party e)) (b .owes (b .next (w .machine) e) (b .party e)) (State (b .next (w .machine) e))
       by-turn =
           let t = turns (w .machine) (w .queue) (v .state) e in
@@ -71,8 +70,8 @@ module _ {M E : Type 0} (b : Implementation M E) (begun : M → Party → Begun)
                 record { begun = v .calls r .begun ∙ sym (alone .0); answers = v .calls r .answers ∙ sym (alone .1) });
           }
 
-      limits : all (withinLimits (s .slots) (w .queue)) (toldAt b w e) ≡ true
-      limits = ap (λ s. all (withinLimits (s .slots) (w .queue)) (toldAt b w e)) (sym (v .sizes-are)) ∙ by-turn .limits
+      limits : all (withinLimits (b .limits s) (w .queue)) (toldAt b w e) ≡ true
+      limits = ap (λ s. all (withinLimits (b .limits s) (w .queue)) (toldAt b w e)) (sym (v .sizes-are)) ∙ by-turn .limits
 
     -- .. and where no call runs the tasks stand in the slots
     pub linearizes-by-turns :

@@ -2,12 +2,11 @@
 use mathlib.Core.Path.{_≡_, refl, ap, sym, _∙_, subst}
 use mathlib.Core.Bool.{Bool, true, false, cond}
 use mathlib.Core.List.{List, [], _∷_, _++_, append-nil, map, map-append}
-use Prim.Native.Nat.{ℕ}
 use borrow.Author.Tests.{eqb-true}
 use Rattle.terms.specs.Lists.{all}
 use Rattle.terms.specs.Outcome.{isAnswer, isRefusal}
 use Rattle.claim.specs.Types.{Outcome}
-use Rattle.claim.specs.PlainQueue.{Told, PlainQueue, Reply, respond, withinLimits}
+use Rattle.claim.specs.PlainQueue.{Limits, Told, PlainQueue, Reply, respond, withinLimits}
 use Rattle.claim.specs.Calls.{Begun, nothing, aPut, aTake, aSteal, Effect, Party, worker, thief, PartyCall, answersTo, callAfter, noCall, orBegun, sameParty}
 use Rattle.claim.specs.Watch.{Watch, queueAfter}
 use Rattle.claim.proofs.Turn.{Turn, begunAfter, orElse, owedAfter, toldIn}
@@ -22,10 +21,10 @@ abbrev pub withReplies : PartyCall → List Reply → PartyCall
 withReplies call replies = record { begun = call .begun; replies = call .replies ++ replies }
 
 -- What a turn makes of the party's call, where the call itself says what was told.
-pub record Turned (isTold : Begun → Outcome → Bool) (n : ℕ) (call : PartyCall) (q : PlainQueue) (told : List Told) (o : Outcome) (next b : Begun)
+pub record Turned (isTold : Begun → Outcome → Bool) (l : Limits) (call : PartyCall) (q : PlainQueue) (told : List Told) (o : Outcome) (next b : Begun)
     (owed : List Outcome) (A : PlainQueue → Type 0) : Type 0 where
   pub follows : Follows (callAfter (withReplies call (map (respond q) told)) o next) b owed
-  pub limits : all (withinLimits n q) told ≡ true
+  pub limits : all (withinLimits l q) told ≡ true
   pub answers : isAnswer o ≡ true → answersTo (withReplies call (map (respond q) told)) ≡ cond (isTold (call .begun) o) (o ∷ []) []
   pub agrees : A (queueAfter q (map (respond q) told))
 
@@ -51,12 +50,12 @@ follows-after call b owed replies o next f = go (isAnswer o) (isRefusal o)
     go false false = follows-begun (withReplies call replies) b (owed ++ map (λ r. r .answer) replies) next more
 
 pub turned :
-    {isTold : Begun → Outcome → Bool} {n : ℕ} {b b′ next : Begun} {owed owed′ : List Outcome} {q : PlainQueue} {told : List Told} {o : Outcome} {A : PlainQueue → Type 0} (call : PartyCall) (effect : Effect)
+    {isTold : Begun → Outcome → Bool} {l : Limits} {b b′ next : Begun} {owed owed′ : List Outcome} {q : PlainQueue} {told : List Told} {o : Outcome} {A : PlainQueue → Type 0} (call : PartyCall) (effect : Effect)
     → Follows call b owed
     → told ≡ toldIn b o effect
-    → Turn isTold n b owed q told o next b′ owed′ A
-    → Turned isTold n call q (toldIn (call .begun) o effect) o next b′ owed′ A
-turned {isTold = isTold} {n = n} {b = b} {next = next} {owed = owed} {q = q} {told = told} {o = o} {A = A} call effect f told-is t =
+    → Turn isTold l b owed q told o next b′ owed′ A
+    → Turned isTold l call q (toldIn (call .begun) o effect) o next b′ owed′ A
+turned {isTold = isTold} {l = l} {b = b} {next = next} {owed = owed} {q = q} {told = told} {o = o} {A = A} call effect f told-is t =
     let same : told ≡ toldIn (call .begun) o effect = told-is ∙ ap (λ b. toldIn b o effect) (sym (f .begun)) in
     let heard-of : t .replies ≡ map (respond q) (toldIn (call .begun) o effect) = t .are ∙ ap (map (respond q)) same in
     record {
@@ -66,7 +65,7 @@ turned {isTold = isTold} {n = n} {b = b} {next = next} {owed = owed} {q = q} {to
             begun = follows-after call b owed (t .replies) o next f .begun ∙ sym (t .begun);
             answers = follows-after call b owed (t .replies) o next f .answers ∙ sym (t .owes);
           });
-      limits = ap (all (withinLimits n q)) (sym same) ∙ t .limits;
+      limits = ap (all (withinLimits l q)) (sym same) ∙ t .limits;
       answers = λ answer.
           map-append (λ r. r .answer) (call .replies) (map (respond q) (toldIn (call .begun) o effect))
           ∙ ap (λ l. l ++ map (λ r. r .answer) (map (respond q) (toldIn (call .begun) o effect))) (f .answers)

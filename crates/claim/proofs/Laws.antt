@@ -1,1 +1,2 @@
 pub mod PlainQueue
+pub mod Tasks

@@ -42,7 +42,7 @@ pub record Shows {M E : Type 0} (b : Implementation M E) (s : Sizes) (most : ℕ
   -- it is kept
   pub keeps : (n : ℕ) (w : Watch M) → n < most → Inv n w → (e : E) → Inv (n + 1) (watchAfter b w e)
   -- what the plain queue is told at an entry keeps the limits, and an answer is the plain queue's
-  pub limits : (n : ℕ) (w : Watch M) → Inv n w → (e : E) → all (withinLimits (s .slots) (w .queue)) (toldAt b w e) ≡ true
+  pub limits : (n : ℕ) (w : Watch M) → Inv n w → (e : E) → all (withinLimits (b .limits s) (w .queue)) (toldAt b w e) ≡ true
   pub answers :
       (n : ℕ) (w : Watch M) → Inv n w → (e : E) → isAnswer (b .outcome (w .machine) e) ≡ true
       → answersTo (callAt b w e) ≡ expected b (callAt b w e .begun) (b .outcome (w .machine) e)
@@ -64,7 +64,7 @@ module _ {M E : Type 0} {b : Implementation M E} (lawful : Lawful b) {s : Sizes}
       at-step answer = rw (lawful .answers-at-steps (w .machine) e answer) (shows .answers n w v e answer)
 
   -- whatever the plain queue is told, it is told within its limits
-  run-limits : (n : ℕ) (w : Watch M) (es : List E) → n + length es ≤ most → Inv n w → all (λ v. all (withinLimits (s .slots) (v .queue)) (v .told)) (events b w es) ≡ true
+  run-limits : (n : ℕ) (w : Watch M) (es : List E) → n + length es ≤ most → Inv n w → all (λ v. all (withinLimits (b .limits s) (v .queue)) (v .told)) (events b w es) ≡ true
   run-limits n w [] short v = refl
   run-limits n w (e ∷ es) short v = rw (shows .limits n w v e) (run-limits (n + 1) (watchAfter b w e) es (omega arith) (shows .keeps n w (omega arith) v e))
 

@@ -2,11 +2,10 @@
 use mathlib.Core.Path.{_≡_, refl, ap, sym, _∙_}
 use mathlib.Core.Bool.{Bool, true, false, cond, false≢true}
 use mathlib.Core.List.{List, [], _∷_, _++_, append-nil, map}
-use Prim.Native.Nat.{ℕ}
 use Rattle.terms.specs.Lists.{all}
 use Rattle.terms.specs.Outcome.{isAnswer, isRefusal}
 use Rattle.claim.specs.Types.{Outcome, Moved}
-use Rattle.claim.specs.PlainQueue.{Told, PlainQueue, Reply, respond, withinLimits}
+use Rattle.claim.specs.PlainQueue.{Limits, Told, PlainQueue, Reply, respond, withinLimits}
 use Rattle.claim.specs.Calls.{Begun, nothing, aPut, aTake, aSteal, Effect, none, toldOf}
 use Rattle.claim.specs.Watch.{queueAfter}
 
@@ -28,13 +27,13 @@ abbrev pub owedAfter : List Outcome → List Reply → Outcome → List Outcome
 owedAfter owed replies o = cond (isAnswer o) [] (owed ++ map (λ r. r .answer) replies)
 
 -- The plain queue's replies to what it is told at an entry, where the party's call has been begun as b and owes what it owes: what is told
--- keeps the limits of n slots, an answer that the plain queue is told of is its own, and what is owed afterwards is what it has answered. A holds
+-- keeps the limits l, an answer that the plain queue is told of is its own, and what is owed afterwards is what it has answered. A holds
 -- of the queue afterwards.
-pub record Turn (isTold : Begun → Outcome → Bool) (n : ℕ) (b : Begun) (owed : List Outcome) (q : PlainQueue) (told : List Told) (o : Outcome)
+pub record Turn (isTold : Begun → Outcome → Bool) (l : Limits) (b : Begun) (owed : List Outcome) (q : PlainQueue) (told : List Told) (o : Outcome)
     (next b′ : Begun) (owed′ : List Outcome) (A : PlainQueue → Type 0) : Type 0 where
   pub replies : List Reply
   pub are : replies ≡ map (respond q) told
-  pub limits : all (withinLimits n q) told ≡ true
+  pub limits : all (withinLimits l q) told ≡ true
   pub answers : isAnswer o ≡ true → owed ++ map (λ r. r .answer) replies ≡ cond (isTold b o) (o ∷ []) []
   pub begun : b′ ≡ begunAfter b o next
   pub owes : owed′ ≡ owedAfter owed replies o
@@ -42,9 +41,9 @@ pub record Turn (isTold : Begun → Outcome → Bool) (n : ℕ) (b : Begun) (owe
 
 -- ── Turns of which the plain queue hears nothing ────────────────────────────────────────────────────────────────────────────
 
-module _ {isTold : Begun → Outcome → Bool} {n : ℕ} {b b′ next : Begun} {owed owed′ : List Outcome} {q : PlainQueue} {A : PlainQueue → Type 0} where
+module _ {isTold : Begun → Outcome → Bool} {l : Limits} {b b′ next : Begun} {owed owed′ : List Outcome} {q : PlainQueue} {A : PlainQueue → Type 0} where
   -- the call begins, or goes on
-  pub moves : b′ ≡ begunAfter b Moved next → owed′ ≡ owed → A q → Turn isTold n b owed q [] Moved next b′ owed′ A
+  pub moves : b′ ≡ begunAfter b Moved next → owed′ ≡ owed → A q → Turn isTold l b owed q [] Moved next b′ owed′ A
   moves begun owes agrees =
       record {
         replies = [];
@@ -57,7 +56,7 @@ module _ {isTold : Begun → Outcome → Bool} {n : ℕ} {b b′ next : Begun} {
       }
 
   -- the entry is refused
-  pub refuses : {o : Outcome} → isRefusal o ≡ true → isAnswer o ≡ false → b′ ≡ b → owed′ ≡ owed → A q → Turn isTold n b owed q [] o next b′ owed′ A
+  pub refuses : {o : Outcome} → isRefusal o ≡ true → isAnswer o ≡ false → b′ ≡ b → owed′ ≡ owed → A q → Turn isTold l b owed q [] o next b′ owed′ A
   refuses refusal no-answer begun owes agrees =
       record {
         replies = [];
@@ -71,8 +70,8 @@ module _ {isTold : Begun → Outcome → Bool} {n : ℕ} {b b′ next : Begun} {
 
 -- the call ends with the answer that it owes, or with one that the plain queue is not told of and owes nothing
 pub ends :
-    {isTold : Begun → Outcome → Bool} {n : ℕ} {b next : Begun} {owed : List Outcome} {q : PlainQueue} {o : Outcome} {A : PlainQueue → Type 0}
-    → isAnswer o ≡ true → owed ≡ cond (isTold b o) (o ∷ []) [] → A q → Turn isTold n b owed q [] o next nothing [] A
+    {isTold : Begun → Outcome → Bool} {l : Limits} {b next : Begun} {owed : List Outcome} {q : PlainQueue} {o : Outcome} {A : PlainQueue → Type 0}
+    → isAnswer o ≡ true → owed ≡ cond (isTold b o) (o ∷ []) [] → A q → Turn isTold l b owed q [] o next nothing [] A
 ends {owed = owed} answer owes agrees =
     record {
       replies = [];
@@ -86,9 +85,9 @@ ends {owed = owed} answer owes agrees =
 
 -- ── Turns of which the plain queue hears: a call that owes nothing takes effect, and the reply is known ─────────────────────
 
-module _ {isTold : Begun → Outcome → Bool} {n : ℕ} {b next : Begun} {q : PlainQueue} {t : Told} {r : Reply} {A : PlainQueue → Type 0} (is : r ≡ respond q t) (within : withinLimits n q t ≡ true) where
+module _ {isTold : Begun → Outcome → Bool} {l : Limits} {b next : Begun} {q : PlainQueue} {t : Told} {r : Reply} {A : PlainQueue → Type 0} (is : r ≡ respond q t) (within : withinLimits l q t ≡ true) where
   -- the call ends with it
-  pub answers-at-once : {o : Outcome} → isAnswer o ≡ true → r .answer ∷ [] ≡ cond (isTold b o) (o ∷ []) [] → A (r .queue) → Turn isTold n b [] q (t ∷ []) o next nothing [] A
+  pub answers-at-once : {o : Outcome} → isAnswer o ≡ true → r .answer ∷ [] ≡ cond (isTold b o) (o ∷ []) [] → A (r .queue) → Turn isTold l b [] q (t ∷ []) o next nothing [] A
   answers-at-once answer same agrees =
       record {
         replies = r ∷ [];
@@ -101,7 +100,7 @@ module _ {isTold : Begun → Outcome → Bool} {n : ℕ} {b next : Begun} {q : P
       }
 
   -- the call goes on, and owes it
-  pub takes-effect : {b′ : Begun} {owed : List Outcome} → b′ ≡ begunAfter b Moved next → owed ≡ r .answer ∷ [] → A (r .queue) → Turn isTold n b [] q (t ∷ []) Moved next b′ owed A
+  pub takes-effect : {b′ : Begun} {owed : List Outcome} → b′ ≡ begunAfter b Moved next → owed ≡ r .answer ∷ [] → A (r .queue) → Turn isTold l b [] q (t ∷ []) Moved next b′ owed A
   takes-effect begun owes agrees =
       record {
         replies = r ∷ [];

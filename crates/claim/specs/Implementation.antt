@@ -3,6 +3,7 @@ use mathlib.Core.Bool.{Bool}
 use mathlib.Core.List.{List}
 use Prim.Native.Nat.{ℕ}
 use Rattle.claim.specs.Types.{Outcome, Sizes}
+use Rattle.claim.specs.PlainQueue.{Limits}
 use Rattle.claim.specs.Calls.{Begun, Effect, Party}
 
 -- A queue on machines M, which obey entries E: a transition system, with its calls and their linearization points.
@@ -11,6 +12,8 @@ pub record Implementation (M E : Type 0) : Type 0 where
   pub fresh : Sizes → M
   pub next : M → E → M
   pub outcome : M → E → Outcome
+  -- how many stores of take step 1 are pending after an entry (02's request 4): the claim says nothing of it, but whoever runs a list tells it
+  pub hidden : M → E → ℕ
   -- whose entry it is, what it begins, and whether it is a step of a call
   pub party : E → Party
   pub begins : E → Begun
@@ -23,3 +26,5 @@ pub record Implementation (M E : Type 0) : Type 0 where
   pub standing : M → List ℕ
   -- whether the plain queue is told of a call, by what was begun and what it answers
   pub isTold : Begun → Outcome → Bool
+  -- when a put may be told to be FULL, and when STORED
+  pub limits : Sizes → Limits

@@ -3,13 +3,14 @@
 -- the plain queue, its limits           PlainQueue
 -- parties, calls, effects               Calls
 -- what the claim has to know of a queue Implementation
--- a run watched                         Watch
+-- a run, and a run watched              Run, Watch
 -- the plain queue's account of a run    Account
 -- the claim                             Linearizable
 pub mod Types
 pub mod PlainQueue
 pub mod Calls
 pub mod Implementation
+pub mod Run
 pub mod Watch
 pub mod Account
 pub mod Linearizable

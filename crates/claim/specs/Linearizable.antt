@@ -45,7 +45,7 @@ module _ {M E : Type 0} (b : Implementation M E) where
     pub held : map (λ p. answersTo (w .calls p)) (parties s) ≡ map (b .owes (w .machine)) (parties s)
     -- Whatever the plain queue was told, it was told within its limits, by the tasks that stood just before. It carries that FULL is not said at will, and no task is
     -- stored or stolen where the plain queue has no place or none.
-    pub limits : all (λ v. all (withinLimits (s .slots) (v .queue)) (v .told)) h ≡ true
+    pub limits : all (λ v. all (withinLimits (b .limits s) (v .queue)) (v .told)) h ≡ true
     -- The plain queue's account: each STORED put's task, known by its put, was given to one call, or stands, and not both. It is true of the plain queue beside such a run
     -- whatever the machine answers; `answers` and `held` tie the machine to it.
     pub once : Permutation (map (λ t. t .put) (tasksOf s h w)) (range (w .queue .stored))

@@ -70,13 +70,19 @@ respond q (toldTake swapped) =
 respond q (toldSteal true) = unchanged q Abort
 respond q (toldSteal false) = leaves (take 1 (q .tasks)) (record { tasks = drop 1 (q .tasks); sum = q .sum; stored = q .stored }) q Abort
 
--- What it may be told, with n slots and by the tasks that stand at that moment: FULL where at most one more would fit, a put to be STORED
--- where there is a slot for it, a steal that gives a task where there is one.
-abbrev pub withinLimits : ℕ → PlainQueue → Told → Bool
-withinLimits n q (toldPut x true) = leb (n - 1) (length (q .tasks))
-withinLimits n q (toldPut x false) = eqb (q .sum) 2147483647 || ltb (length (q .tasks)) n
-withinLimits n q (toldTake swapped) = true
-withinLimits n q (toldSteal abort) = abort || ltb 0 (length (q .tasks))
+-- What it may be told has limits, counted in tasks that stand at that moment: which they are, each queue says.
+pub record Limits : Type 0 where
+  -- a put may be FULL with so many or more
+  pub full : ℕ
+  -- .. and STORED with fewer than these
+  pub stored : ℕ
+
+-- A put that is told FULL or STORED keeps them, and a steal that gives a task is told only where one stands.
+abbrev pub withinLimits : Limits → PlainQueue → Told → Bool
+withinLimits l q (toldPut x true) = leb (l .full) (length (q .tasks))
+withinLimits l q (toldPut x false) = eqb (q .sum) 2147483647 || ltb (length (q .tasks)) (l .stored)
+withinLimits l q (toldTake swapped) = true
+withinLimits l q (toldSteal abort) = abort || ltb 0 (length (q .tasks))
 
 -- ── What a call adds to the account ─────────────────────────────────────────────────────────────────────────────────────────
 

@@ -1,12 +1,11 @@
--- That FF-THE satisfies the claim: for every list of entries (`Theorem`); that the claim speaks of the list obeyed entry by entry (`Watched`);
+-- That FF-THE satisfies the claim: for every list of entries (`Theorem`);
 -- that a run with too small a margin violates it (`Rehearsed`); and what holds of every run, whichever margin is set (`AnyMargin`).
 --
 -- Reading order. `Invariant`: what is true after every entry, a sentence a field, in any `Environment`. `Turn`: what an entry has to show, and the
--- ways to show it: the plain queue's replies (`Tasks`), who holds the lock (`Exclusion`), the invariant rebuilt from what an entry of the worker's
+-- ways to show it: the plain queue's replies (`Tasks`, of `claim`), who holds the lock (`Exclusion`), the invariant rebuilt from what an entry of the worker's
 -- changes (`Rebuild`). The steps, a lemma each: `Put`, `Take`, with the worker's other entries in `Worker`; `Thief`, whose step 4 is the one use
 -- of the margin. `Owed`, `Settle`, `Drain`: memory moves on while no call does. `Run`: an entry joined with the calls of all parties, in any
 -- environment; `Plain`: in that of 01's machine.
-pub mod Tasks
 pub mod Invariant
 pub mod Turn
 pub mod Exclusion
@@ -21,6 +20,5 @@ pub mod Drain
 pub mod Run
 pub mod Plain
 pub mod Theorem
-pub mod Watched
 pub mod Rehearsed
 pub mod AnyMargin

@@ -4,11 +4,12 @@
 use mathlib.Core.Path.{_≡_}
 use mathlib.Core.Bool.{true}
 use mathlib.Core.List.{List, [], _∷_, map}
-use Prim.Native.Nat.{ℕ, _≤_}
+use Prim.Native.Nat.{ℕ, _-_, _≤_}
 use lib.IntN.{ℤ, pos, negsuc, _+ℤ_, _-ℤ_}
 use lib.ListN.{length}
 use Rattle.terms.specs.Sizes.{enoughMargin, sizesInRange}
 use Rattle.terms.specs.Lists.{range}
+use Rattle.claim.specs.PlainQueue.{Limits}
 use Rattle.claim.specs.Calls.{Party, worker, thief, begunBy, isStep, partyOf}
 use Rattle.claim.specs.Implementation.{Implementation}
 use Rattle.claim.specs.Watch.{watchFresh, watched}
@@ -108,6 +109,10 @@ standingNow m = loadedBetween m (headBefore (m .head) (callInside m (m .lock .ho
 
 -- ── The claim ───────────────────────────────────────────────────────────────────────────────────────────────────────────────
 
+-- FULL comes only with slots − 1 or more tasks standing, STORED only with fewer than slots
+abbrev pub limits : Sizes → Limits
+limits s = record { full = s .slots - 1; stored = s .slots }
+
 -- FF-THE, the queue of 002's Figures 2a, 2b and 3, as far as the claim has to know it: the plain queue is told of every call
 abbrev pub ffThe : Implementation Machine Entry
 ffThe =
@@ -115,6 +120,7 @@ ffThe =
       fresh = fresh;
       next = λ m e. obey m e .machine;
       outcome = λ m e. obey m e .outcome;
+      hidden = λ m e. obey m e .hidden;
       party = partyOf;
       begins = begunBy;
       isStep = isStep;
@@ -122,6 +128,7 @@ ffThe =
       owes = owes;
       standing = standingInSlots;
       isTold = λ begun answer. true;
+      limits = limits;
     }
 
 -- Demand 3, one claim for a whole list: up to 4,096 entries, from the fresh machine, under sizes in range with enough margin. An operand that

@@ -2,10 +2,11 @@
 -- refused, of "Demand 3's plain queue" how a list is run, and of request 4, in 02, for which machine a number is handed on.
 use mathlib.Core.Path.{_≡_}
 use mathlib.Core.Bool.{Bool, true, false, cond, _&&_}
-use mathlib.Core.List.{List, [], _∷_}
+use mathlib.Core.List.{List}
 use Prim.Native.Nat.{ℕ, _≤_}
 use lib.Dec.{ltb}
 use lib.ListN.{length}
+use Rattle.terms.specs.Lists.{after, each}
 use Rattle.terms.specs.Outcome.{isRefusal}
 use Rattle.terms.specs.Sizes.{sizesInRange}
 use Rattle.machine.specs.Types.{Done, Entry, Drain, ClientStore, BeginPut, BeginTake, WorkerStep, BeginSteal, ThiefStep, Machine, Outcome, Wait, Sizes}
@@ -54,13 +55,11 @@ HandsOnHidden = (m : Machine) (e : Entry) → obey m e .hidden ≡ hidden (obey 
 -- ── A list of entries, each on the machine left by the one before it ────────────────────────────────────────────────────
 
 abbrev pub machineAfter : Machine → List Entry → Machine
-machineAfter m [] = m
-machineAfter m (e ∷ es) = machineAfter (obey m e .machine) es
+machineAfter m es = after (λ m e. obey m e .machine) m es
 
 -- a part of what each of them hands back
 abbrev pub eachOf : {A : Type 0} → (Done → A) → Machine → List Entry → List A
-eachOf part m [] = []
-eachOf part m (e ∷ es) = part (obey m e) ∷ eachOf part (obey m e .machine) es
+eachOf part m es = each (λ m e. obey m e .machine) (λ m e. part (obey m e)) m es
 
 abbrev pub outcomesOf : Machine → List Entry → List Outcome
 outcomesOf m es = eachOf (λ d. d .outcome) m es

@@ -19,7 +19,7 @@ use Rattle.machine.specs.Obey.{obey, outcomesOf}
 use Rattle.machine.specs.Linearizable.{ffThe, owes, thiefOwes, workerOwes}
 use Rattle.machine.proofs.Laws.Obey.{ffThe-lawful}
 use Rattle.machine.proofs.Linearizable.Theorem.{demand3, fresh-plain, invariant-shows, run-stands-now}
-use Rattle.machine.proofs.Linearizable.Watched.{events-outcomes, watched-machine}
+use Rattle.claim.proofs.Watched.{events-outcomes, watched-machine}
 use Rattle.properties.specs.Types.{Entry, Drain, ClientStore, BeginPut, BeginTake, WorkerStep, BeginSteal, ThiefStep, Machine, Outcome, Moved, Place, Early, Wait, Stored, Task, Empty, Abort, Full, End, ThiefCall, StealLock, StealLoadHead, StealRaiseHead, StealLoadTail, StealLoadSlot, StealUnlockTask, StealRestoreHead, StealUnlockAbort, WorkerCall, PutLoadHead, PutStoreSlot, PutStoreTail, TakeStoreTail, TakeLoadHead, TakeLoadSlot, TakeLock, TakeReloadHead, TakeRestoreTail, TakeUnlockEmpty, TakeUnlockTask, TakeLoadLastSlot}
 use Rattle.properties.specs.Renumbering.{renumberEntry}
 use Rattle.properties.specs.ExactlyOnce.{AccountedByNumber, NoneLostOrGivenTwice, given, held, numberIn, numberPut, numberedApart, numberedFrom, standing, storedPuts}
@@ -283,8 +283,8 @@ accounted-by-number s es ranged enough short k =
       adds-occurrences k .append (given s es ++ held s es) (standing s es),
       adds-occurrences k .append (given s es) (held s es),
       adds-occurrences k .append (concatMap (λ v. taskIn (v .outcome)) h) (concatMap taskIn (concatMap (owes (w .machine)) (parties s))),
-      ap (occurrences k) (concatMap-outcomes h ∙ ap (concatMap taskIn) (events-outcomes w₀ es)),
-      ap (λ m. occurrences k (concatMap taskIn (concatMap (owes m) (parties s)))) (watched-machine w₀ es),
+      ap (occurrences k) (concatMap-outcomes h ∙ ap (concatMap taskIn) (events-outcomes ffThe w₀ es)),
+      ap (λ m. occurrences k (concatMap taskIn (concatMap (owes m) (parties s)))) (watched-machine ffThe w₀ es),
       ap (occurrences k) (run-stands-now s es ranged enough),
       ap (occurrences k) (run-stored stores-at-once (invariant-shows s enough) 0 w₀ es (omega arith) (fresh-plain s ranged) ∙ stored-as-read w₀ [] es (record { of-worker = refl; of-thief = λ i. refl })),
     )

@@ -10,11 +10,12 @@ use lib.ListN.{List·getD-eq-default, getD, length, length-take, take}
 use borrow.Author.Tests.{ltb-false, ltb-true}
 use Rattle.terms.specs.Lists.{all}
 use Rattle.terms.specs.Sizes.{neededMargin}
+use Rattle.terms.proofs.Laws.Runs.{length-each}
 use Rattle.machine.specs.InRange.{inRange}
 use Rattle.machine.specs.Machine.{fresh, hidden}
 use Rattle.machine.specs.Obey.{hiddenOf, machineAfter, obey}
 use Rattle.machine.proofs.Laws.Hidden.{hidden-known, hidden-pending}
-use Rattle.machine.proofs.Laws.Obey.{hands-on-hidden, length-eachOf}
+use Rattle.machine.proofs.Laws.Obey.{hands-on-hidden}
 use Rattle.machine.proofs.Linearizable.AnyMargin.{run-in-range, run-take-stores}
 use Rattle.properties.specs.Types.{Entry, Machine}
 use Rattle.properties.specs.Hidden.{HiddenIsPending, HiddenWithinNeeded, reaches, reaching}
@@ -33,7 +34,7 @@ hidden-within-needed s es ranged at = go (ltb at (length es)) refl
         let then = machineAfter (fresh s) (take (suc at) es) in
         omega (arith, hidden-there (fresh s) es at (ltb-true at (length es) p), hidden-pending then, run-take-stores s (take (suc at) es) ranged)
     go false p =
-        let past = List·getD-eq-default (hiddenOf (fresh s) es) 0 {n = at} (omega (arith, ltb-false at (length es) p, length-eachOf (λ d. d .hidden) (fresh s) es)) in
+        let past = List·getD-eq-default (hiddenOf (fresh s) es) 0 {n = at} (omega (arith, ltb-false at (length es) p, length-each (λ m e. obey m e .machine) (λ m e. obey m e .hidden) (fresh s) es)) in
         omega (arith, past)
 
 pub hidden-is-pending : HiddenIsPending

@@ -17,7 +17,7 @@ use Rattle.terms.specs.Lists.{concatMap}
 use Rattle.machine.specs.Machine.{fresh}
 use Rattle.machine.specs.Obey.{outcomesOf}
 use Rattle.machine.proofs.Linearizable.Theorem.{demand3}
-use Rattle.machine.proofs.Linearizable.Watched.{events-outcomes}
+use Rattle.claim.proofs.Watched.{events-outcomes}
 use Rattle.schedule.specs.Types.{Entry, Sizes}
 use Rattle.schedule.specs.Demand3.{RunLinearizes, answerIn, answersIn, plainAnswers}
 use Rattle.properties.proofs.ExactlyOnce.{none-lost-or-given-twice}
@@ -49,7 +49,7 @@ answers-plain : (s : Sizes) (es : List Entry) → Linearizable ffThe s es
     → map (λ l. l ∷ []) (concatMap (λ o. answerIn (lineOf o)) (outcomesOf (fresh s) es)) ≡ plainAnswers s es
 answers-plain s es claim =
     let h = events ffThe (watchFresh ffThe s) es in
-    ap (λ os. map (λ l. l ∷ []) (concatMap (λ o. answerIn (lineOf o)) os)) (sym (events-outcomes (watchFresh ffThe s) es))
+    ap (λ os. map (λ l. l ∷ []) (concatMap (λ o. answerIn (lineOf o)) os)) (sym (events-outcomes ffThe (watchFresh ffThe s) es))
     ∙ answers-of-events h
     ∙ sym (map-map (map lineOf) (λ v. v .outcome ∷ []) (answering h))
     ∙ ap (map (map lineOf)) (sym (claim .answers))

@@ -18,6 +18,17 @@ module _ {A B : Type 0} where
   concatMap f [] = []
   concatMap f (x ∷ l) = f x ++ concatMap f l
 
+module _ {M E : Type 0} (next : M → E → M) where
+  -- the state after some entries, each obeyed on the state left by the one before it
+  abbrev pub after : M → List E → M
+  after m [] = m
+  after m (e ∷ es) = after (next m e) es
+
+  -- what comes of each of them there
+  abbrev pub each : {A : Type 0} → (M → E → A) → M → List E → List A
+  each part m [] = []
+  each part m (e ∷ es) = part m e ∷ each part (next m e) es
+
 -- n numbers, from k up
 abbrev pub rangeFrom : ℕ → ℕ → List ℕ
 rangeFrom k zero = []

@@ -2,9 +2,8 @@
 -- on the number for the machine that it returns; and it waits where its thief is not there. One line for each step.
 use mathlib.Core.Path.{_≡_, refl, ap, sym, _∙_, subst}
 use mathlib.Core.Bool.{Bool, true, false, and-false, cond, not, _&&_, false≢true}
-use mathlib.Core.List.{List, [], _∷_}
-use Prim.Native.Nat.{ℕ, suc}
-use lib.ListN.{length}
+use mathlib.Core.List.{List}
+use Prim.Native.Nat.{ℕ}
 use lib.Seq.{set-getD}
 use Rattle.terms.specs.Outcome.{isAnswer, isRefusal}
 use Rattle.terms.specs.Sizes.{marginInUse}
@@ -18,7 +17,7 @@ use Rattle.machine.specs.InRange.{inRange}
 use Rattle.machine.specs.Worker.{atEnd, atOrAboveHead, headIsPast, isFull, stays, workerRuns}
 use Rattle.machine.specs.Update.{withThief, withWorker}
 use Rattle.machine.specs.Thief.{keepsMargin, thiefRuns, idleThief, stays as thiefStays}
-use Rattle.machine.specs.Obey.{HandsOnHidden, OutOfRangeWaits, RefusalKeeps, eachOf, obey, obeyInRange, thiefIsThere}
+use Rattle.machine.specs.Obey.{HandsOnHidden, OutOfRangeWaits, RefusalKeeps, obey, obeyInRange, thiefIsThere}
 use Rattle.machine.specs.Linearizable.{ffThe}
 use Rattle.machine.specs.Perform.{viewKeeping, workerView, performWorker, stepOfWorker, stepKeeping, performThief}
 
@@ -138,11 +137,6 @@ answers-at-steps m e answer = obey-obeys m e .answers answer
 -- each hands on the number for the machine that it returns
 pub hands-on-hidden : HandsOnHidden
 hands-on-hidden m e = obey-obeys m e .hands-on
-
--- there is one for each entry
-pub length-eachOf : {A : Type 0} (part : Done → A) (m : Machine) (es : List Entry) → length (eachOf part m es) ≡ length es
-length-eachOf part m [] = refl
-length-eachOf part m (e ∷ es) = ap suc (length-eachOf part (obey m e .machine) es)
 
 -- 7 WAIT where the thief is not there
 pub thief-there : (m : Machine) (e : Entry) → thiefIsThere (m .sizes) e ≡ false → obey m e ≡ done Wait m

@@ -23,7 +23,7 @@ use Rattle.machine.specs.Obey.{RunInRange, machineAfter}
 use Rattle.machine.specs.Linearizable.{ffThe}
 use Rattle.machine.proofs.Linearizable.Invariant.{Environment, InPlace, Sound, holds, outside, raised, raised-stolen, stolen}
 use Rattle.machine.proofs.Linearizable.Plain.{Plain}
-use Rattle.machine.proofs.Linearizable.Watched.{watched-machine}
+use Rattle.claim.proofs.Watched.{watched-machine}
 use Rattle.machine.proofs.Linearizable.Theorem.{fresh-plain, run-invariant}
 
 -- ── In range ────────────────────────────────────────────────────────────────────────────────────────────────────────────────
@@ -98,7 +98,7 @@ invariant-ranged {w = w} v ranged short =
 pub run-in-range : RunInRange
 run-in-range s es ranged short =
     let v = run-invariant s 0 (watchFresh ffThe s) es (fresh-plain s ranged) in
-    ap inRange (sym (watched-machine (watchFresh ffThe s) es)) ∙ invariant-ranged v ranged (omega arith)
+    ap inRange (sym (watched-machine ffThe (watchFresh ffThe s) es)) ∙ invariant-ranged v ranged (omega arith)
 
 -- ── Pending take stores ─────────────────────────────────────────────────────────────────────────────────────────────────────
 
@@ -114,5 +114,5 @@ run-take-stores s es ranged =
     let dips : takesPending m ≡ b .dips = ap (λ t. takeStores t (pending (m .buffer))) (b .tail-is) ∙ chain-takeStores (b .chain) in
     let few : b .dips ≤ neededMargin (m .sizes .buffer) (m .sizes .spacing) = chain-needed (m .sizes .buffer) (b .few) short (b .chain) in
     let here : takesPending m ≤ neededMargin (m .sizes .buffer) (m .sizes .spacing) = omega arith in
-    subst (λ m. takesPending m ≤ neededMargin (s .buffer) (s .spacing)) (watched-machine (watchFresh ffThe s) es)
+    subst (λ m. takesPending m ≤ neededMargin (s .buffer) (s .spacing)) (watched-machine ffThe (watchFresh ffThe s) es)
     (subst (λ s. takesPending m ≤ neededMargin (s .buffer) (s .spacing)) (v .sizes-are) here)

@@ -26,7 +26,7 @@ use Rattle.machine.specs.Types.{Holder, Nobody, TheWorker, TheThief, Ind
 use Rattle.machine.specs.Update.{withMemory}
 use Rattle.machine.specs.Machine.{thiefCall, workerLoad, workerTail}
 use Rattle.machine.specs.Linearizable.{thiefOwes, workerOwes}
-pub use Rattle.machine.proofs.Linearizable.Tasks.{Shows, taskAt}
+pub use Rattle.claim.proofs.Laws.Tasks.{Shows, taskAt}
 
 -- ── The worker's call ───────────────────────────────────────────────────────────────────────────────────────────────────────
 

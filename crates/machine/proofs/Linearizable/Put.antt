@@ -29,7 +29,7 @@ use Rattle.machine.specs.Perform.{workerView, stepOfWorker}
 use Rattle.machine.specs.Entries.{workerGoesOn}
 use Rattle.machine.proofs.Laws.Loads.{pushed-workerLoad, pushed-workerTail}
 use Rattle.machine.proofs.Linearizable.Invariant.{Environment, AgreesOn, Sound, head-at, raised-stolen, stolen}
-use Rattle.machine.proofs.Linearizable.Tasks.{replies-end, replies-full, replies-stored, shows-joined}
+use Rattle.claim.proofs.Laws.Tasks.{replies-end, replies-full, replies-stored, shows-joined}
 use Rattle.machine.proofs.Linearizable.Turn.{MoveTurn, StepTurn, afterWorker}
 use Rattle.machine.proofs.Linearizable.Rebuild.{agrees-call, pushed-shows, pushed-unwritten, pushes, rebuilt, recalled, recalls, stayed, tail-raising, tail-shows, tail-unwritten}
 

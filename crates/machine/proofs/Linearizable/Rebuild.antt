@@ -21,11 +21,11 @@ use Rattle.machine.specs.Types.{Done, Spacing, Entry, Lock, Machine, Out
 use Rattle.machine.specs.Machine.{done, memoryLoad, workerLoad}
 use Rattle.machine.specs.Worker.{stays}
 use Rattle.machine.specs.Update.{pushed}
-use Rattle.machine.specs.Linearizable.{workerOwes}
+use Rattle.machine.specs.Linearizable.{limits, workerOwes}
 use Rattle.machine.specs.Perform.{workerView, performWorker}
 use Rattle.machine.proofs.Laws.Loads.{pushed-workerLoad}
 use Rattle.machine.proofs.Linearizable.Invariant.{Environment, bare, Agrees, AgreesOn, Exclusive, Sound, Spaced, TailState, filling, holds, locked, lowered, stolen, workerBegun}
-use Rattle.machine.proofs.Linearizable.Tasks.{shows-load, Shows}
+use Rattle.claim.proofs.Laws.Tasks.{shows-load, Shows}
 use Rattle.machine.proofs.Linearizable.Turn.{Turn, WorkerTurn, afterWorker}
 
 -- ── The machine ─────────────────────────────────────────────────────────────────────────────────────────────────────────────
@@ -190,7 +190,7 @@ module _ {g : Environment} {n : ℕ} {m : Machine} {c : WorkerCall} {p : ThiefCa
       → ((i : ℕ) → holds (l .holder) i ≡ holds (m .lock .holder) i)
       → (sound : Sound g (n + 1) (afterWorker m l (m .buffer) (m .spacing) c′) c′ p)
       → (AgreesOn v q
-      → Turn (m .sizes .slots) (workerBegun m c) (workerOwes m c) q told o e
+      → Turn (limits (m .sizes)) (workerBegun m c) (workerOwes m c) q told o e
       (workerBegun (afterWorker m l (m .buffer) (m .spacing) c′) c′)
       (workerOwes (afterWorker m l (m .buffer) (m .spacing) c′) c′)
       (AgreesOn sound))
@@ -217,7 +217,7 @@ module _ {g : Environment} {n : ℕ} {m : Machine} {c : WorkerCall} {p : ThiefCa
       → told ≡ toldIn (workerBegun m c) o (effect o)
       → (sound : Sound g (n + 1) (afterWorker m (m .lock) (push a (m .buffer)) spacing c′) c′ p)
       → (AgreesOn v q
-      → Turn (m .sizes .slots) (workerBegun m c) (workerOwes m c) q told o e
+      → Turn (limits (m .sizes)) (workerBegun m c) (workerOwes m c) q told o e
       (workerBegun (afterWorker m (m .lock) (push a (m .buffer)) spacing c′) c′)
       (workerOwes (afterWorker m (m .lock) (push a (m .buffer)) spacing c′) c′)
       (AgreesOn sound))

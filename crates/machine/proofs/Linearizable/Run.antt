@@ -58,7 +58,7 @@ After E s n q cs p starts o f g m =
 -- The invariant is kept, and with a margin that is enough the plain queue was told what it may be told, and has answered what was answered.
 pub record Kept (E : Type 0) (s : Sizes) (n : ℕ) (q : PlainQueue) (cs : Party → PartyCall) (p : Party) (starts : Begun) (o : Outcome) (f : Effect) (g : Environment) (m : Machine) : Type 0 where
   pub next : After E s n q cs p starts o f g m
-  pub limits : E → all (withinLimits (s .slots) q) (toldIn (cs p .begun) o f) ≡ true
+  pub limits : E → all (withinLimits (ffThe .limits s) q) (toldIn (cs p .begun) o f) ≡ true
   pub answers : E → isAnswer o ≡ true → answersTo (withReplies (cs p) (map (respond q) (toldIn (cs p .begun) o f))) ≡ cond (g .isTold (cs p .begun) o) (o ∷ []) []
 
 module _ {E : Type 0} {s : Sizes} {n : ℕ} {g : Environment} {m : Machine} {q : PlainQueue} {cs : Party → PartyCall} (v : Invariant E s n g m q cs) where
@@ -72,7 +72,7 @@ module _ {E : Type 0} {s : Sizes} {n : ℕ} {g : Environment} {m : Machine} {q :
       m′ : Machine
       m′ = afterWorker m (t .lock) (t .buffer) (t .spacing) (t .call)
 
-      turn : E → Turned (ffThe .isTold) (m .sizes .slots) (cs worker) q (toldIn (cs worker .begun) (t .outcome) (effect (t .outcome))) (t .outcome) (begunBy e) (workerBegun m′ (t .call)) (workerOwes m′ (t .call)) (AgreesOn (t .sound))
+      turn : E → Turned (ffThe .isTold) (ffThe .limits (m .sizes)) (cs worker) q (toldIn (cs worker .begun) (t .outcome) (effect (t .outcome))) (t .outcome) (begunBy e) (workerBegun m′ (t .call)) (workerOwes m′ (t .call)) (AgreesOn (t .sound))
       turn enough = turned (cs worker) (effect (t .outcome)) (v .worker-call enough) (t .told-is) (t .turn (v .agrees enough))
 
       next : After E s n q cs worker (begunBy e) (t .outcome) (effect (t .outcome)) g m′
@@ -89,8 +89,8 @@ module _ {E : Type 0} {s : Sizes} {n : ℕ} {g : Environment} {m : Machine} {q :
                 record { begun = v .thief-call enough i .begun; answers = v .thief-call enough i .answers ∙ thiefOwes-same (denied g) (bare g m) (bare g m′) (thiefCall m i) (λ h e. refl) };
           }
 
-      limits : E → all (withinLimits (s .slots) q) (toldIn (cs worker .begun) (t .outcome) (effect (t .outcome))) ≡ true
-      limits enough = ap (λ s. all (withinLimits (s .slots) q) (toldIn (cs worker .begun) (t .outcome) (effect (t .outcome)))) (sym (v .sizes-are)) ∙ turn enough .limits
+      limits : E → all (withinLimits (ffThe .limits s) q) (toldIn (cs worker .begun) (t .outcome) (effect (t .outcome))) ≡ true
+      limits enough = ap (λ s. all (withinLimits (ffThe .limits s) q) (toldIn (cs worker .begun) (t .outcome) (effect (t .outcome)))) (sym (v .sizes-are)) ∙ turn enough .limits
 
       answers : E → isAnswer (t .outcome) ≡ true → answersTo (withReplies (cs worker) (map (respond q) (toldIn (cs worker .begun) (t .outcome) (effect (t .outcome))))) ≡ cond (g .isTold (cs worker .begun) (t .outcome)) (t .outcome ∷ []) []
       answers enough a =
@@ -114,7 +114,7 @@ module _ {E : Type 0} {s : Sizes} {n : ℕ} {g : Environment} {m : Machine} {q :
       own-call : PartyCall
       own-call = callAfter (withReplies (cs (thief i)) (map (respond q) told)) (t .outcome) (begunBy e)
 
-      turn : E → Turned (g .isTold) (m .sizes .slots) (cs (thief i)) q told (t .outcome) (begunBy e) (thiefBegun (t .call)) (thiefOwes (denied g) (bare g m′) (t .call)) (AgreesOn (t .sound))
+      turn : E → Turned (g .isTold) (ffThe .limits (m .sizes)) (cs (thief i)) q told (t .outcome) (begunBy e) (thiefBegun (t .call)) (thiefOwes (denied g) (bare g m′) (t .call)) (AgreesOn (t .sound))
       turn enough = turned (cs (thief i)) effect (v .thief-call enough i) (t .told-is) (t .turn (needed enough) (v .agrees enough))
 
       -- a property of every thief's call: of thief i's new one, and of the others' as before
@@ -155,8 +155,8 @@ module _ {E : Type 0} {s : Sizes} {n : ℕ} {g : Environment} {m : Machine} {q :
                 (record { begun = v .thief-call enough j .begun; answers = v .thief-call enough j .answers ∙ thiefOwes-same (denied g) (bare g m) (bare g m′) (thiefCall m j) (λ h e. refl) }));
           }
 
-      limits : E → all (withinLimits (s .slots) q) told ≡ true
-      limits enough = ap (λ s. all (withinLimits (s .slots) q) told) (sym (v .sizes-are)) ∙ turn enough .limits
+      limits : E → all (withinLimits (ffThe .limits s) q) told ≡ true
+      limits enough = ap (λ s. all (withinLimits (ffThe .limits s) q) told) (sym (v .sizes-are)) ∙ turn enough .limits
 
       answers : E → isAnswer (t .outcome) ≡ true → answersTo (withReplies (cs (thief i)) (map (respond q) told)) ≡ cond (g .isTold (cs (thief i) .begun) (t .outcome)) (t .outcome ∷ []) []
       answers enough = turn enough .answers

@@ -15,7 +15,7 @@ use Rattle.machine.specs.Machine.{memoryLoad, workerLoad}
 use Rattle.machine.specs.Update.{withMemory}
 use Rattle.machine.specs.Linearizable.{workerOwes}
 use Rattle.machine.proofs.Linearizable.Invariant.{AgreesOn, Environment, HoldsHead, Sound, bare, stolen, workerBegun}
-use Rattle.machine.proofs.Linearizable.Tasks.{shows-load}
+use Rattle.claim.proofs.Laws.Tasks.{shows-load}
 use Rattle.machine.proofs.Linearizable.Owed.{workerBegun-same, workerOwes-same}
 
 -- ── The machine ─────────────────────────────────────────────────────────────────────────────────────────────────────────────

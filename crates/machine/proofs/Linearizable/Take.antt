@@ -16,7 +16,7 @@ use Rattle.stores.specs.StoreBuffer.{push, tailStore}
 use Rattle.stores.proofs.Laws.Index.{idx, idx-le, idx-next, idx-previous}
 use Rattle.stores.proofs.Laws.Pending.{lowering, seen-tail}
 use Rattle.stores.proofs.Laws.Spacing.{asked, countedIn-asked, countedIn-most}
-use Rattle.claim.specs.PlainQueue.{toldTake, PlainQueue}
+use Rattle.claim.specs.PlainQueue.{Limits, toldTake, PlainQueue}
 use Rattle.claim.specs.Calls.{aTake, onlyWhere, toldOf}
 use Rattle.claim.proofs.Turn.{ends, moves, takes-effect, toldIn}
 use Rattle.machine.specs.Types.{WorkerStep, Nobody, TheWorker, Index, Lock, Machine, Outcome, Moved, Wait, Task, Empty, Push, One, ATake, Tail, Store, ThiefCall, WorkerCall, TakeStoreTail, TakeLoadHead, TakeLoadSlot, TakeLock, TakeReloadHead, TakeRestoreTail, TakeUnlockEmpty, TakeUnlockTask, TakeLoadLastSlot}
@@ -28,7 +28,7 @@ use Rattle.machine.specs.Linearizable.{workerOwes}
 use Rattle.machine.specs.Perform.{workerView, stepOfWorker}
 use Rattle.machine.specs.Entries.{workerGoesOn}
 use Rattle.machine.proofs.Linearizable.Invariant.{Environment, Agrees, AgreesOn, Exclusive, Sound, filling, head-at, holds, lowered, raised, stolen, workerBegun}
-use Rattle.machine.proofs.Linearizable.Tasks.{replies-empty, replies-taken, shows-taken, taskAt}
+use Rattle.claim.proofs.Laws.Tasks.{replies-empty, replies-taken, shows-taken, taskAt}
 use Rattle.machine.proofs.Linearizable.Turn.{MoveTurn, StepTurn, Turn, afterWorker}
 use Rattle.machine.proofs.Linearizable.Exclusion.{free-holds, free-quiet, working-holds, working-quiet}
 use Rattle.machine.proofs.Linearizable.Rebuild.{agrees-call, pushes, rebuilt, recalled, recalls, stayed, tail-agrees, tail-pushing, tail-raising}
@@ -37,10 +37,10 @@ use Rattle.machine.proofs.Linearizable.Rebuild.{agrees-call, pushes, re
 
 -- the effect of a take that finds a task: it is given the newest, which lies at the tail that the take has stored
 takes-newest :
-    {n : ℕ} {load : ℕ → ℕ} {b : List Store} {low low′ fill fill′ gone seen lo bound : ℕ} {q : PlainQueue} (x : ℕ)
+    {limit : Limits} {n : ℕ} {load : ℕ → ℕ} {b : List Store} {low low′ fill fill′ gone seen lo bound : ℕ} {q : PlainQueue} (x : ℕ)
     → low ≡ 1 → low′ ≡ 0 → fill′ ≡ 0 → 1 ≤ seen → lo + gone ≤ seen → x ≡ load seen
     → Agrees n load b low fill gone seen lo bound q
-    → Turn n aTake [] q (toldTake false ∷ []) Moved WorkerStep aTake (Task x ∷ []) (Agrees n load b low′ fill′ gone seen lo bound)
+    → Turn limit aTake [] q (toldTake false ∷ []) Moved WorkerStep aTake (Task x ∷ []) (Agrees n load b low′ fill′ gone seen lo bound)
 takes-newest {load = load} {gone = gone} {seen = seen} {lo = lo} {q = q} x low level still positive above here g =
     let some : 0 < length (q .tasks) = omega (arith, g .count) in
     let last : lo + gone + (length (q .tasks) - 1) ≡ seen = omega (arith, g .count) in

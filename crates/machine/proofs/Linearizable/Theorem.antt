@@ -27,9 +27,9 @@ use Rattle.machine.specs.Machine.{fresh, thiefCall, workerLoad, workerTa
 use Rattle.machine.specs.Linearizable.{Demand3, StandsNow, callInside, ffThe, headBefore, loadedBetween, owes, standingInSlots, standingNow, stepsUp, tailBefore, thiefOwes}
 use Rattle.machine.proofs.Laws.Obey.{ffThe-lawful}
 use Rattle.machine.proofs.Linearizable.Invariant.{Exclusive, Environment, HeadState, HoldsTail, plainMemory, InPlace, Invariant, Sound, holds, lowered, outside, raised, stolen, thiefBegun, workerBegun}
-use Rattle.machine.proofs.Linearizable.Tasks.{shows-list}
+use Rattle.claim.proofs.Laws.Tasks.{shows-list}
 use Rattle.machine.proofs.Linearizable.Plain.{Plain, entry-keeps}
-use Rattle.machine.proofs.Linearizable.Watched.{watched-machine}
+use Rattle.claim.proofs.Watched.{watched-machine}
 
 -- ── At first ────────────────────────────────────────────────────────────────────────────────────────────────────────────────
 
@@ -261,4 +261,4 @@ demand3 s es ranged enough short = linearizes ffThe-lawful (invariant-shows s en
 -- .. and the tasks that stand, at every moment
 pub run-stands-now : StandsNow
 run-stands-now s es ranged enough =
-    stands-now (run-invariant s 0 (watchFresh ffThe s) es (fresh-plain s ranged)) enough ∙ ap standingNow (watched-machine (watchFresh ffThe s) es)
+    stands-now (run-invariant s 0 (watchFresh ffThe s) es (fresh-plain s ranged)) enough ∙ ap standingNow (watched-machine ffThe (watchFresh ffThe s) es)

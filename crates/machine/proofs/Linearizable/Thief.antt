@@ -26,13 +26,13 @@ use Rattle.machine.specs.Thief.{stays as leaves, keepsMargin, thiefRuns}
 use Rattle.machine.specs.Machine.{done, lockIsFree, memoryLoad, thiefCall, thiefTail, workerLoad}
 use Rattle.machine.specs.Update.{withLock}
 use Rattle.machine.specs.Effect.{effectKeeping}
-use Rattle.machine.specs.Linearizable.{thiefOwes}
+use Rattle.machine.specs.Linearizable.{limits, thiefOwes}
 use Rattle.machine.specs.Perform.{viewKeeping, stepKeeping, performThief}
 use Rattle.machine.specs.Entries.{beginSteal, thiefGoesOn}
 use Rattle.machine.proofs.Laws.Obey.{thief-put-back}
 use Rattle.machine.proofs.Linearizable.Rebuild.{load-below}
 use Rattle.machine.proofs.Linearizable.Invariant.{Enough, Environment, bare, Agrees, AgreesOn, Exclusive, HeadState, InPlace, Sound, denied, head-at, holds, locked, lowered, outside, raised, stolen, thiefBegun}
-use Rattle.machine.proofs.Linearizable.Tasks.{replies-stolen, afterSteal, shows-as, shows-stolen, taskAt}
+use Rattle.claim.proofs.Laws.Tasks.{replies-stolen, afterSteal, shows-as, shows-stolen, taskAt}
 use Rattle.machine.proofs.Linearizable.Turn.{StealTurn, ThiefTurn, afterThief}
 use Rattle.machine.proofs.Linearizable.Exclusion.{free-outside, free-quiet, held-outside, holder-stays, inside-holds, others-stay, outside-stays}
 
@@ -119,7 +119,7 @@ module _ {g : Environment} {n : ℕ} {m : Machine} {c : WorkerCall} (q : PlainQu
       → told ≡ toldIn (thiefBegun own) Moved effect
       → (Enough g (m .sizes)
       → AgreesOn v q
-      → claim.Turn (g .isTold) (m .sizes .slots) (thiefBegun own) (thiefOwes (denied g) (bare g m) own) q told Moved nothing
+      → claim.Turn (g .isTold) (limits (m .sizes)) (thiefBegun own) (thiefOwes (denied g) (bare g m) own) q told Moved nothing
       (thiefBegun p)
       (thiefOwes (denied g) (afterThief (bare g m) h (m .lock) i p) p)
       (AgreesOn (insideState v h p inside head)))

@@ -3,22 +3,22 @@ use mathlib.Core.Path.{_≡_}
 use mathlib.Core.List.{List}
 use Prim.Native.Nat.{ℕ, _+_}
 use lib.ListN.{set}
-use Rattle.claim.specs.PlainQueue.{Told, PlainQueue}
+use Rattle.claim.specs.PlainQueue.{Limits, Told, PlainQueue}
 use Rattle.claim.specs.Calls.{Begun, Effect, begunBy}
 use Rattle.claim.proofs.Turn as claim
 use Rattle.claim.proofs.Turn.{toldIn}
 use Rattle.machine.specs.Types.{Done, Spacing, Entry, WorkerStep, ThiefStep, Index, Lock, Machine, Outcome, StoreBuffer, ThiefCall, WorkerCall, WorkerMove}
 use Rattle.machine.specs.Machine.{done}
 use Rattle.machine.specs.Effect.{effectKeeping, workerEffect}
-use Rattle.machine.specs.Linearizable.{ffThe, thiefOwes, workerOwes}
+use Rattle.machine.specs.Linearizable.{ffThe, limits, thiefOwes, workerOwes}
 use Rattle.machine.specs.Perform.{performWorker}
 use Rattle.machine.proofs.Linearizable.Invariant.{Enough, Environment, AgreesOn, bare, denied, InPlace, Sound, holds, thiefBegun, workerBegun}
 
 -- ── A party's turn ──────────────────────────────────────────────────────────────────────────────────────────────────────────
 
 -- as any queue's, at an entry e; the plain queue is told of all that the worker does
-abbrev pub Turn : ℕ → Begun → List Outcome → PlainQueue → List Told → Outcome → Entry → Begun → List Outcome → (PlainQueue → Type 0) → Type 0
-Turn n b owed q told o e b′ owed′ A = claim.Turn (ffThe .isTold) n b owed q told o (begunBy e) b′ owed′ A
+abbrev pub Turn : Limits → Begun → List Outcome → PlainQueue → List Told → Outcome → Entry → Begun → List Outcome → (PlainQueue → Type 0) → Type 0
+Turn l b owed q told o e b′ owed′ A = claim.Turn (ffThe .isTold) l b owed q told o (begunBy e) b′ owed′ A
 
 -- ── The worker's entries, apart from a drain ────────────────────────────────────────────────────────────────────────────────
 
@@ -53,7 +53,7 @@ pub record WorkerTurn {g : Environment} {n : ℕ} {m : Machine} {c : WorkerCall}
   pub sound : Sound g (n + 1) (afterWorker m lock buffer spacing call) call p
   pub turn :
       AgreesOn v q
-      → Turn (m .sizes .slots) (workerBegun m c) (workerOwes m c) q told outcome e
+      → Turn (limits (m .sizes)) (workerBegun m c) (workerOwes m c) q told outcome e
       (workerBegun (afterWorker m lock buffer spacing call) call)
       (workerOwes (afterWorker m lock buffer spacing call) call)
       (AgreesOn sound)
@@ -104,7 +104,7 @@ pub record ThiefTurn {g : Environment} {n : ℕ} {m : Machine} {c : WorkerCall} 
   pub turn :
       Enough g (m .sizes)
       → AgreesOn v q
-      → claim.Turn (g .isTold) (m .sizes .slots) (thiefBegun own) (thiefOwes (denied g) (bare g m) own) q told outcome (begunBy e)
+      → claim.Turn (g .isTold) (limits (m .sizes)) (thiefBegun own) (thiefOwes (denied g) (bare g m) own) q told outcome (begunBy e)
       (thiefBegun call)
       (thiefOwes (denied g) (afterThief (bare g m) head lock i call) call)
       (AgreesOn sound)

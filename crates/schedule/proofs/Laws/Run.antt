@@ -19,9 +19,9 @@ use Rattle.terms.specs.Lists.{all, range}
 use Rattle.machine.specs.Machine.{fresh}
 use Rattle.machine.specs.declared.machine.Done.{Done}
 use Rattle.machine.specs.Obey.{eachOf, machineAfter, obey, outcomesOf}
-use Rattle.machine.proofs.Laws.Obey.{length-eachOf}
 use Rattle.properties.specs.Renumbering.{renumberEntry, renumberOutcome}
 use Rattle.terms.proofs.Laws.Lists.{all-getD}
+use Rattle.terms.proofs.Laws.Runs.{after-more, each-more, length-each}
 use Rattle.terms.proofs.Laws.Sums.{length-range, range-suc}
 use Rattle.properties.proofs.Renumbering.{blind-to-numbers}
 use Rattle.schedule.specs.Types.{BeginPut, BeginSteal, BeginTake, ClientStore, Drain, Entry, Refusal, ThiefStep, WorkerStep}
@@ -45,17 +45,15 @@ use Rattle.schedule.proofs.Laws.Reader.{accepted-long, accepted-readabl
 -- ── One entry more ──────────────────────────────────────────────────────────────────────────────────────────────────────────
 
 pub machineAfter-more : (m : Machine) (es : List Entry) (e : Entry) → machineAfter m (es ++ (e ∷ [])) ≡ obey (machineAfter m es) e .machine
-machineAfter-more m [] e = refl
-machineAfter-more m (d ∷ es) e = machineAfter-more (obey m d .machine) es e
+machineAfter-more = after-more (λ m e. obey m e .machine)
 
 pub eachOf-more : {A : Type 0} (part : Done → A) (m : Machine) (es : List Entry) (e : Entry)
     → eachOf part m (es ++ (e ∷ [])) ≡ eachOf part m es ++ (part (obey (machineAfter m es) e) ∷ [])
-eachOf-more part m [] e = refl
-eachOf-more part m (d ∷ es) e = ap (λ l. part (obey m d) ∷ l) (eachOf-more part (obey m d .machine) es e)
+eachOf-more part = each-more (λ m e. obey m e .machine) (λ m e. part (obey m e))
 
 -- there are as many outcomes as entries
 pub length-outcomesOf : (m : Machine) (es : List Entry) → length (outcomesOf m es) ≡ length es
-length-outcomesOf m es = length-eachOf (λ d. d .outcome) m es
+length-outcomesOf = length-each (λ m e. obey m e .machine) (λ m e. obey m e .outcome)
 
 pub tallyOf-more : (os : List Outcome) (o : Outcome) → tallyOf (os ++ (o ∷ [])) ≡ counted (tallyOf os) o
 tallyOf-more os o = from noneCounted os

@@ -9,8 +9,8 @@ use lib.ListN.{getD, length, take, drop, List·getD-append, length-append, lengt
 use lib.Seq.{drop-cons, drop-length, getD-append-seam, getD-drop, getD-take}
 use borrow.Author.Tests.{eq-eqb, ltb-false, ltb-true, ne-eqb}
 use Rattle.terms.specs.Lists.{rangeFrom, range}
 use Rattle.claim.specs.PlainQueue.{toldPut, toldTake, toldSteal, PlainQueue, Reply, StoredTask, joined, leaves, newest, respond, unchanged, withoutNewest}
-use Rattle.machine.specs.Types.{Task, Empty, Abort, Full, End}
+use Rattle.claim.specs.Types.{Task, Empty, Abort, Full, End}
 
 -- the task at a place of a list; beyond the list any will do
 abbrev pub taskAt : List StoredTask → ℕ → StoredTask
