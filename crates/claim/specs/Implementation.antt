@@ -24,6 +24,8 @@ pub record Implementation (M E : Type 0) : Type 0 where
   pub owes : M → Party → List Outcome
   -- what the worker would load from the slots of head up to its tail − 1
   pub standing : M → List ℕ
+  -- the numbers of the tasks that stand, oldest first, at any moment: also while calls run, which may have moved head or tail and have no task yet
+  pub standingNow : M → List ℕ
   -- whether the plain queue is told of a call, by what was begun and what it answers
   pub isTold : Begun → Outcome → Bool
   -- when a put may be told to be FULL, and when STORED

@@ -127,6 +127,7 @@ ffThe =
       effect = λ m e. effectOf (obey m e .outcome) m e;
       owes = owes;
       standing = standingInSlots;
+      standingNow = standingNow;
       isTold = λ begun answer. true;
       limits = limits;
     }

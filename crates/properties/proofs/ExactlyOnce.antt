@@ -271,7 +271,7 @@ concatMap-outcomes [] = refl
 concatMap-outcomes (v ∷ h) = ap (λ l. taskIn (v .outcome) ++ l) (concatMap-outcomes h)
 
 -- by every count: what was given, is held or stands is what was STORED
-pub accounted-by-number : AccountedByNumber
+pub accounted-by-number : AccountedByNumber ffThe
 accounted-by-number s es ranged enough short k =
     let w₀ : Watch Machine = watchFresh ffThe s in
     let h : List Event = events ffThe w₀ es in
@@ -280,8 +280,8 @@ accounted-by-number s es ranged enough short k =
     omega (
       arith,
       account-numbers (adds-occurrences k) ffThe-lawful s es (l .answers) (l .held),
-      adds-occurrences k .append (given s es ++ held s es) (standing s es),
-      adds-occurrences k .append (given s es) (held s es),
+      adds-occurrences k .append (given ffThe s es ++ held ffThe s es) (standing ffThe s es),
+      adds-occurrences k .append (given ffThe s es) (held ffThe s es),
       adds-occurrences k .append (concatMap (λ v. taskIn (v .outcome)) h) (concatMap taskIn (concatMap (owes (w .machine)) (parties s))),
       ap (occurrences k) (concatMap-outcomes h ∙ ap (concatMap taskIn) (events-outcomes ffThe w₀ es)),
       ap (λ m. occurrences k (concatMap taskIn (concatMap (owes m) (parties s)))) (watched-machine ffThe w₀ es),
@@ -289,7 +289,7 @@ accounted-by-number s es ranged enough short k =
       ap (occurrences k) (run-stored stores-at-once (invariant-shows s enough) 0 w₀ es (omega arith) (fresh-plain s ranged) ∙ stored-as-read w₀ [] es (record { of-worker = refl; of-thief = λ i. refl })),
     )
 
-pub none-lost-or-given-twice : NoneLostOrGivenTwice
+pub none-lost-or-given-twice : NoneLostOrGivenTwice ffThe
 none-lost-or-given-twice s es ranged enough short =
     record {
       outcomes = ap (outcomesOf (fresh s)) (sym (apart-back es)) ∙ blind-to-numbers (numberIn es) refl s (numberedApart es);

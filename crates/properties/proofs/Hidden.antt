@@ -12,7 +12,8 @@ use Rattle.terms.specs.Lists.{all}
 use Rattle.terms.specs.Sizes.{neededMargin}
 use Rattle.terms.proofs.Laws.Runs.{length-each}
 use Rattle.machine.specs.InRange.{inRange}
-use Rattle.machine.specs.Machine.{fresh, hidden}
+use Rattle.machine.specs.Linearizable.{ffThe}
+use Rattle.machine.specs.Machine.{fresh, hidden, takesPending}
 use Rattle.machine.specs.Obey.{hiddenOf, machineAfter, obey}
 use Rattle.machine.proofs.Laws.Hidden.{hidden-known, hidden-pending}
 use Rattle.machine.proofs.Laws.Obey.{hands-on-hidden}
@@ -26,7 +27,7 @@ hidden-there m [] at inside = absurd (not-suc-le-zero inside)
 hidden-there m (e ∷ es) zero inside = hands-on-hidden m e
 hidden-there m (e ∷ es) (suc at) inside = hidden-there (obey m e .machine) es at (le-of-suc-le-suc inside)
 
-pub hidden-within-needed : HiddenWithinNeeded
+pub hidden-within-needed : HiddenWithinNeeded ffThe
 hidden-within-needed s es ranged at = go (ltb at (length es)) refl
   where
     go : (inside : Bool) → ltb at (length es) ≡ inside → getD (hiddenOf (fresh s) es) at 0 ≤ neededMargin (s .buffer) (s .spacing)
@@ -37,7 +38,7 @@ hidden-within-needed s es ranged at = go (ltb at (length es)) refl
         let past = List·getD-eq-default (hiddenOf (fresh s) es) 0 {n = at} (omega (arith, ltb-false at (length es) p, length-each (λ m e. obey m e .machine) (λ m e. obey m e .hidden) (fresh s) es)) in
         omega (arith, past)
 
-pub hidden-is-pending : HiddenIsPending
+pub hidden-is-pending : HiddenIsPending ffThe takesPending
 hidden-is-pending s es ranged short at inside =
     let es-then = take (suc at) es in
     hidden-there (fresh s) es at inside ∙ hidden-known (machineAfter (fresh s) es-then) (run-in-range s es-then ranged (omega (arith, length-take (suc at) es)))

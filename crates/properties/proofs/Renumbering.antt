@@ -17,6 +17,7 @@ use Rattle.machine.specs.Machine.{done, fresh, hasRoom, memoryLoad, memoryLoads
 use Rattle.machine.specs.Update.{withLock, withMemory, withStore, withThief, withWorker}
 use Rattle.machine.specs.InRange.{inRange}
 use Rattle.machine.specs.Obey.{obey, obeyInRange, outcomesOf, thiefIsThere}
+use Rattle.machine.specs.Linearizable.{ffThe}
 use Rattle.machine.specs.Perform.{thiefView, workerView, performWorker, stepOfWorker, performThief, stepOfThief}
 use Rattle.machine.specs.Entries.{drain, drained, unlessWorkerRuns, workerGoesOn}
 use Rattle.properties.specs.Types.{Entry, Drain, ClientStore, BeginPut, BeginTake, WorkerStep, BeginSteal, ThiefStep, Done, Index, Load, NoSlot, SlotOf, Machine, Outcome, Moved, Wait, Sizes, Store, StoreBuffer, StoreKind, Client, Tail, Slot, Push, Nothing, One, TheClient, Spacing, Thief, ThiefCall, StealLock, StealLoadHead, StealRaiseHead, StealLoadTail, StealLoadSlot, StealUnlockTask, StealRestoreHead, StealUnlockAbort, ThiefView, ThiefMove, WorkerCall, PutLoadHead, PutStoreSlot, PutStoreTail, TakeStoreTail, TakeLoadHead, TakeLoadSlot, TakeLock, TakeReloadHead, TakeRestoreTail, TakeUnlockEmpty, TakeUnlockTask, TakeLoadLastSlot, WorkerView, WorkerMove}
@@ -344,7 +345,7 @@ module _ (f : ℕ → ℕ) where
         ap (λ l. withMemory l (fresh s .tail) (fresh s .buffer) (fresh s))
         (map-replicate f 256 0 ∙ ap (replicate 256) zero-kept)
 
-pub blind-to-numbers : BlindToNumbers
+pub blind-to-numbers : BlindToNumbers ffThe
 blind-to-numbers f zero-kept s es =
     ap (λ m. outcomesOf m (map (renumberEntry f) es)) (sym (fresh-renumber f zero-kept s))
     ∙ outcomes-renumber f zero-kept (fresh s) es

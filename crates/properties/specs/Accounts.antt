@@ -5,6 +5,7 @@ use mathlib.Core.List.{List, [], _∷_, _++_}
 use Prim.Native.Nat.{ℕ}
 use Rattle.terms.specs.Lists.{equal}
 use Rattle.terms.specs.Sizes.{sized}
+use Rattle.machine.specs.Linearizable.{ffThe}
 use Rattle.machine.specs.Stories.{Line, does, drains, entriesIn, filled, puts, thiefMoves, workerMoves}
 use Rattle.machine.specs.Rehearsals.{m2, m2Sizes, m3, m3Sizes}
 use Rattle.properties.specs.Types.{BeginSteal, BeginTake, Moved, Sizes}
@@ -15,10 +16,10 @@ pub data Row : Type 0 where
 
 abbrev pub holds : Row → Bool
 holds (account s l g h t p) =
-    equal (given s (numberedApart (entriesIn l))) g
-    && equal (held s (numberedApart (entriesIn l))) h
-    && equal (standing s (numberedApart (entriesIn l))) t
-    && equal (stored s (numberedApart (entriesIn l))) p
+    equal (given ffThe s (numberedApart (entriesIn l))) g
+    && equal (held ffThe s (numberedApart (entriesIn l))) h
+    && equal (standing ffThe s (numberedApart (entriesIn l))) t
+    && equal (stored ffThe s (numberedApart (entriesIn l))) p
 
 -- M2's 11 is given twice; a task that is put then is lost: it lies below head, which the second of the two has raised
 abbrev pub lost : List Line
@@ -50,7 +51,7 @@ accounts =
 
 -- M2's run violates `ExactlyOnce`, since put 1 is given twice; and so does the run in which put 3 is lost
 abbrev pub GivenTwiceViolates : Type 0
-GivenTwiceViolates = ExactlyOnce m2Sizes (entriesIn m2) → ⊥
+GivenTwiceViolates = ExactlyOnce ffThe m2Sizes (entriesIn m2) → ⊥
 
 abbrev pub LostViolates : Type 0
-LostViolates = ExactlyOnce m2Sizes (entriesIn lost) → ⊥
+LostViolates = ExactlyOnce ffThe m2Sizes (entriesIn lost) → ⊥

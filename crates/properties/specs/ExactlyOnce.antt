@@ -12,9 +12,8 @@ use Rattle.terms.specs.Lists.{Permutation, concatMap, occurrences}
 use Rattle.terms.specs.Outcome.{isAnswer, isMoved, isStored}
 use Rattle.terms.specs.Sizes.{enoughMargin, sizesInRange}
 use Rattle.claim.specs.Calls.{parties, taskIn}
-use Rattle.machine.specs.Machine.{fresh}
-use Rattle.machine.specs.Obey.{machineAfter, outcomesOf}
-use Rattle.machine.specs.Linearizable.{owes, standingNow}
+use Rattle.claim.specs.Implementation.{Implementation}
+use Rattle.claim.specs.Run.{machineAfter, outcomesOf}
 use Rattle.properties.specs.Types.{Entry, Drain, ClientStore, BeginPut, BeginTake, WorkerStep, BeginSteal, ThiefStep, Outcome, Sizes}
 use Rattle.properties.specs.Renumbering.{renumberOutcome}
 
@@ -64,38 +63,38 @@ storedPuts running (ThiefStep i ∷ es) (o ∷ os) = storedPuts running es os
 
 -- ── The account of a list ───────────────────────────────────────────────────────────────────────────────────────────────────
 
-module _ (s : Sizes) (es : List Entry) where
+module _ {M : Type 0} (b : Implementation M Entry) (s : Sizes) (es : List Entry) where
   -- the numbers that were answered with TASK, those that running calls hold, and those that stand
   abbrev pub given : List ℕ
-  given = concatMap taskIn (outcomesOf (fresh s) es)
+  given = concatMap taskIn (outcomesOf b (b .fresh s) es)
 
   abbrev pub held : List ℕ
-  held = concatMap taskIn (concatMap (owes (machineAfter (fresh s) es)) (parties s))
+  held = concatMap taskIn (concatMap (b .owes (machineAfter b (b .fresh s) es)) (parties s))
 
   abbrev pub standing : List ℕ
-  standing = standingNow (machineAfter (fresh s) es)
+  standing = b .standingNow (machineAfter b (b .fresh s) es)
 
   -- the numbers of the STORED puts
   abbrev pub stored : List ℕ
-  stored = storedPuts [] es (outcomesOf (fresh s) es)
+  stored = storedPuts [] es (outcomesOf b (b .fresh s) es)
 
 -- ── Exactly once ────────────────────────────────────────────────────────────────────────────────────────────────────────────
 
 -- `together` is what enough margin is for; `outcomes` and `once` hold with any.
-pub record ExactlyOnce (s : Sizes) (es : List Entry) : Type 0 where
+pub record ExactlyOnce {M : Type 0} (b : Implementation M Entry) (s : Sizes) (es : List Entry) : Type 0 where
   -- the outcomes are those of the list with its puts numbered apart, the numbers exchanged
-  pub outcomes : outcomesOf (fresh s) es ≡ map (renumberOutcome (numberIn es)) (outcomesOf (fresh s) (numberedApart es))
+  pub outcomes : outcomesOf b (b .fresh s) es ≡ map (renumberOutcome (numberIn es)) (outcomesOf b (b .fresh s) (numberedApart es))
   -- in that list, what was given, is held or stands is what was STORED ..
-  pub together : Permutation (given s (numberedApart es) ++ held s (numberedApart es) ++ standing s (numberedApart es)) (stored s (numberedApart es))
+  pub together : Permutation (given b s (numberedApart es) ++ held b s (numberedApart es) ++ standing b s (numberedApart es)) (stored b s (numberedApart es))
   -- .. and no number stands in it twice
-  pub once : (k : ℕ) → occurrences k (stored s (numberedApart es)) ≤ 1
+  pub once : (k : ℕ) → occurrences k (stored b s (numberedApart es)) ≤ 1
 
 -- Of the lists that demand 3 speaks of. Each prefix of a list is a list, so it is true at every moment. Proved in `proofs/ExactlyOnce.antt`.
-abbrev pub NoneLostOrGivenTwice : Type 0
-NoneLostOrGivenTwice = (s : Sizes) (es : List Entry) → sizesInRange s ≡ true → enoughMargin s ≡ true → length es ≤ 4096 → ExactlyOnce s es
+abbrev pub NoneLostOrGivenTwice : {M : Type 0} → Implementation M Entry → Type 0
+NoneLostOrGivenTwice b = (s : Sizes) (es : List Entry) → sizesInRange s ≡ true → enoughMargin s ≡ true → length es ≤ 4096 → ExactlyOnce b s es
 
 -- The same account in a list's own numbers, each as often. They tell its puts apart only where no two puts have one number, as in a schedule of which a share sheet is made (02's request 2). Proved in `proofs/ExactlyOnce.antt`.
-abbrev pub AccountedByNumber : Type 0
-AccountedByNumber =
+abbrev pub AccountedByNumber : {M : Type 0} → Implementation M Entry → Type 0
+AccountedByNumber b =
     (s : Sizes) (es : List Entry) → sizesInRange s ≡ true → enoughMargin s ≡ true → length es ≤ 4096
-    → Permutation (given s es ++ held s es ++ standing s es) (stored s es)
+    → Permutation (given b s es ++ held b s es ++ standing b s es) (stored b s es)

@@ -7,24 +7,25 @@ use lib.Dec.{eqb}
 use lib.ListN.{getD, length, take}
 use Rattle.terms.specs.Lists.{largest}
 use Rattle.terms.specs.Sizes.{neededMargin, sized, sizesInRange}
+use Rattle.claim.specs.Implementation.{Implementation}
+use Rattle.claim.specs.Run.{hiddenOf, machineAfter}
 use Rattle.claim.specs.Watch.{watchFresh}
 use Rattle.machine.specs.Linearizable.{ffThe}
-use Rattle.machine.specs.Machine.{fresh, takesPending}
-use Rattle.machine.specs.Obey.{hiddenOf, machineAfter}
+use Rattle.machine.specs.Machine.{fresh}
 use Rattle.machine.specs.Stories.{Line, comesTrue, does, entriesIn, filled, undrainedTakes, workerMoves}
 use Rattle.properties.specs.Types.{BeginTake, Entry, Moved, Sizes}
 
 -- after any entry of any list the number is at most the needed margin, whichever margin is set
-abbrev pub HiddenWithinNeeded : Type 0
-HiddenWithinNeeded =
+abbrev pub HiddenWithinNeeded : {M : Type 0} → Implementation M Entry → Type 0
+HiddenWithinNeeded b =
     (s : Sizes) (es : List Entry) → sizesInRange s ≡ true
-    → (at : ℕ) → getD (hiddenOf (fresh s) es) at 0 ≤ neededMargin (s .buffer) (s .spacing)
+    → (at : ℕ) → getD (hiddenOf b (b .fresh s) es) at 0 ≤ neededMargin (s .buffer) (s .spacing)
 
--- In a run it is always the count of the pending stores of take step 1, since no machine there is out of range (`RunInRange`, of `machine`).
-abbrev pub HiddenIsPending : Type 0
-HiddenIsPending =
+-- In a run it is always the count of the pending stores of take step 1, since no machine there is out of range (`RunInRange`, of `machine` and of `cas`).
+abbrev pub HiddenIsPending : {M : Type 0} → Implementation M Entry → (M → ℕ) → Type 0
+HiddenIsPending b takesPending =
     (s : Sizes) (es : List Entry) → sizesInRange s ≡ true → length es ≤ 4096
-    → (at : ℕ) → at < length es → getD (hiddenOf (fresh s) es) at 0 ≡ takesPending (machineAfter (fresh s) (take (suc at) es))
+    → (at : ℕ) → at < length es → getD (hiddenOf b (b .fresh s) es) at 0 ≡ takesPending (machineAfter b (b .fresh s) (take (suc at) es))
 
 -- ── The bound is reached ────────────────────────────────────────────────────────────────────────────────────────────────────
 
@@ -34,7 +35,7 @@ pub data Row : Type 0 where
 
 -- the run is as the story says, and the largest number of its entries is the needed margin
 abbrev pub reaches : Row → Bool
-reaches (row s l) = comesTrue (watchFresh ffThe s) l && eqb (largest (hiddenOf (fresh s) (entriesIn l))) (neededMargin (s .buffer) (s .spacing))
+reaches (row s l) = comesTrue (watchFresh ffThe s) l && eqb (largest (hiddenOf ffThe (fresh s) (entriesIn l))) (neededMargin (s .buffer) (s .spacing))
 
 -- so many takes undrained, with so many client stores between each two
 abbrev pub lagging : ℕ → ℕ → List Line

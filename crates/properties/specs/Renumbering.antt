@@ -6,8 +6,8 @@ use mathlib.Core.Path.{_≡_}
 use mathlib.Core.List.{List, map}
 use Prim.Native.Nat.{ℕ}
 use Rattle.properties.specs.Types.{Entry, Drain, ClientStore, BeginPut, BeginTake, WorkerStep, BeginSteal, ThiefStep, Outcome, Moved, Place, Early, Wait, Stored, Task, Empty, Abort, Full, End, Sizes}
-use Rattle.machine.specs.Machine.{fresh}
-use Rattle.machine.specs.Obey.{outcomesOf}
+use Rattle.claim.specs.Implementation.{Implementation}
+use Rattle.claim.specs.Run.{outcomesOf}
 
 abbrev pub renumberEntry : (ℕ → ℕ) → Entry → Entry
 renumberEntry f Drain = Drain
@@ -30,9 +30,9 @@ renumberOutcome f Abort = Abort
 renumberOutcome f Full = Full
 renumberOutcome f End = End
 
-abbrev pub BlindToNumbers : Type 0
-BlindToNumbers =
+abbrev pub BlindToNumbers : {M : Type 0} → Implementation M Entry → Type 0
+BlindToNumbers b =
     (f : ℕ → ℕ)
     → f 0 ≡ 0
     → (s : Sizes) (es : List Entry)
-    → outcomesOf (fresh s) (map (renumberEntry f) es) ≡ map (renumberOutcome f) (outcomesOf (fresh s) es)
+    → outcomesOf b (b .fresh s) (map (renumberEntry f) es) ≡ map (renumberOutcome f) (outcomesOf b (b .fresh s) es)

@@ -34,7 +34,7 @@ pub record TraceLinearizes (s : Sizes) (es : List Entry) (entries : ℕ) (trace 
   -- of the list of entries all of demand 3 is true
   pub linearizable : Linearizable ffThe s es
   -- and no task is lost or given twice, by the machine's own account
-  pub once : ExactlyOnce s es
+  pub once : ExactlyOnce ffThe s es
 
 -- a file that was run, with enough margin
 abbrev pub RunLinearizes : List ℕ → List ℕ → Running → Type 0

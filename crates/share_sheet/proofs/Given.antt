@@ -12,6 +12,7 @@ use Rattle.terms.specs.Lists.{occurrences}
 use Rattle.terms.specs.Outcome.{numberOf, valueOf}
 use Rattle.terms.specs.Sizes.{sizesInRange, within}
 use Rattle.terms.proofs.Laws.Sizes.{within-bounds}
+use Rattle.machine.specs.Linearizable.{ffThe}
 use Rattle.properties.specs.ExactlyOnce.{stored}
 use Rattle.schedule.specs.Format.{decode, entriesIn, kindsIn, operandsIn, sizesIn}
 use Rattle.schedule.specs.Run.{outcomesIn, scheduleIn}
@@ -168,7 +169,7 @@ module _ (file : List ℕ) (count room : ℕ) (made : Checked file count room) w
         put-before = λ block within some.
             let named = task-of-share block (λ none. some (ap (λ h. h .party) (share-told rest block within) ∙ none)) .0 in
             let told = task-told (shareOf es os block .entry) block named in
-            ap (λ h. occurrences block (stored (sizesIn file) (take (h .entry) es))) (share-told rest block within)
+            ap (λ h. occurrences block (stored ffThe (sizesIn file) (take (h .entry) es))) (share-told rest block within)
             ∙ task-stored (sizesIn file) es count ranged (made .behind .enough) short (made .behind .right) (shareOf es os block .entry) block (told .0) (told .1);
       }
     where

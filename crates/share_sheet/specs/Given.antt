@@ -7,6 +7,7 @@ use lib.ListN.{length, getD, take}
 use Rattle.terms.specs.Kinds.{partyNumber}
 use Rattle.terms.specs.Lists.{occurrences}
 use Rattle.terms.specs.Sizes.{within}
+use Rattle.machine.specs.Linearizable.{ffThe}
 use Rattle.properties.specs.ExactlyOnce.{stored}
 use Rattle.schedule.specs.Format.{decode, entriesIn, sizesIn}
 use Rattle.schedule.specs.Run.{outcomesIn, scheduleIn}
@@ -40,7 +41,7 @@ pub record SheetFacts (file : List ℕ) (count : ℕ) (sheet : List ℕ) : Type 
       → TaskAt file (shareIn count sheet block .entry) block × (partyNumber (getD (scheduleIn file) (shareIn count sheet block .entry) Drain) ≡ shareIn count sheet block .party)
   -- .. and before that entry the block was put, STORED, and just once
   pub put-before : (block : ℕ) → within 1 count block ≡ true → (shareIn count sheet block .party ≡ 255 → ⊥)
-      → occurrences block (stored (sizesIn file) (take (shareIn count sheet block .entry) (scheduleIn file))) ≡ 1
+      → occurrences block (stored ffThe (sizesIn file) (take (shareIn count sheet block .entry) (scheduleIn file))) ≡ 1
 
 -- so it is wherever the answer is that a sheet was written
 abbrev pub SheetTells : List ℕ → ℕ → List ℕ → Sheet → Type 0

@@ -20,6 +20,7 @@ use Rattle.claim.specs.Calls.{taskIn}
 use Rattle.machine.specs.declared.machine.Machine.{Machine}
 use Rattle.machine.specs.Machine.{fresh}
 use Rattle.machine.specs.Obey.{obey, outcomesOf}
+use Rattle.machine.specs.Linearizable.{ffThe}
 use Rattle.properties.specs.ExactlyOnce.{given, held, numberPut, standing, stored, storedPuts}
 use Rattle.properties.proofs.ExactlyOnce.{accounted-by-number, stored-put}
 use Rattle.schedule.specs.Format.{allBelow}
@@ -144,19 +145,19 @@ module _ (s : Sizes) (es : List Entry) (count : ℕ) (ranged : sizesInRange s �
   givenUpTo k n = occurrences k (concatMap taskIn (take n os))
 
   -- .. is no more than it is STORED, by demand 3 ..
-  given-stored : (k n : ℕ) → givenUpTo k n ≤ occurrences k (stored s (take n es))
+  given-stored : (k n : ℕ) → givenUpTo k n ≤ occurrences k (stored ffThe s (take n es))
   given-stored k n =
       let l = take n es in
       omega (
         arith,
         accounted-by-number s l ranged enough (omega (arith, length-take n es)) k,
-        adds-occurrences k .append (given s l ++ held s l) (standing s l),
-        adds-occurrences k .append (given s l) (held s l),
+        adds-occurrences k .append (given ffThe s l ++ held ffThe s l) (standing ffThe s l),
+        adds-occurrences k .append (given ffThe s l) (held ffThe s l),
         ap (λ t. occurrences k (concatMap taskIn t)) (outcomesOf-take (fresh s) n es),
       )
 
   -- .. which is no more than it is put
-  stored-few : (k n : ℕ) → occurrences k (stored s (take n es)) ≤ occurrences k (putsUpTo n es)
+  stored-few : (k n : ℕ) → occurrences k (stored ffThe s (take n es)) ≤ occurrences k (putsUpTo n es)
   stored-few k n = omega (arith, stored-put k [] (take n es) (outcomesOf (fresh s) (take n es)))
 
   -- a TASK gives its number once more
@@ -189,10 +190,10 @@ module _ (s : Sizes) (es : List Entry) (count : ℕ) (ranged : sizesInRange s �
   task-is-block at k there task = puts-blocks k (suc at) (omega (arith, given-more at k there task, given-stored k (suc at), stored-few k (suc at)))
 
   -- .. that was put and STORED before it, once ..
-  pub task-stored : (at k : ℕ) → at < length es → getD os at Moved ≡ Task k → occurrences k (stored s (take at es)) ≡ 1
+  pub task-stored : (at k : ℕ) → at < length es → getD os at Moved ≡ Task k → occurrences k (stored ffThe s (take at es)) ≡ 1
   task-stored at k there task =
-      let outcomes : (n : ℕ) → stored s (take n es) ≡ storedPuts [] (take n es) (take n os) = λ n. ap (storedPuts [] (take n es)) (outcomesOf-take (fresh s) n es) in
-      let same : stored s (take (suc at) es) ≡ stored s (take at es) = outcomes (suc at) ∙ stored-same [] es os at (ap isStored task) ∙ sym (outcomes at) in
+      let outcomes : (n : ℕ) → stored ffThe s (take n es) ≡ storedPuts [] (take n es) (take n os) = λ n. ap (storedPuts [] (take n es)) (outcomesOf-take (fresh s) n es) in
+      let same : stored ffThe s (take (suc at) es) ≡ stored ffThe s (take at es) = outcomes (suc at) ∙ stored-same [] es os at (ap isStored task) ∙ sym (outcomes at) in
       omega (arith, given-more at k there task, given-stored k (suc at), ap (occurrences k) same, stored-few k at, puts-once k at)
 
   -- .. and no other is
