@@ -6,6 +6,7 @@
 -- a run, and a run watched              Run, Watch
 -- the plain queue's account of a run    Account
 -- the claim                             Linearizable
+-- rows of tables, for any queue         Stories
 pub mod Types
 pub mod PlainQueue
 pub mod Calls
@@ -14,3 +15,4 @@ pub mod Run
 pub mod Watch
 pub mod Account
 pub mod Linearizable
+pub mod Stories

@@ -3,10 +3,10 @@ use mathlib.Core.Path.{_≡_, refl}
 use mathlib.Core.Bool.{true}
 use Rattle.terms.specs.Lists.{all}
 use Rattle.machine.specs.InRange.{inRange}
-use Rattle.machine.specs.Stories.{holds}
+use Rattle.machine.specs.Stories.{rowHolds}
 use Rattle.machine.specs.Handed.{HandedBack, handedIn}
 
-pub handed-hold : all holds handedIn ≡ true
+pub handed-hold : all rowHolds handedIn ≡ true
 unfolding inRange
 handed-hold = refl
 

@@ -3,10 +3,10 @@ use mathlib.Core.Path.{_≡_, refl}
 use mathlib.Core.Bool.{true}
 use Rattle.terms.specs.Lists.{all}
 use Rattle.machine.specs.InRange.{inRange}
-use Rattle.machine.specs.Stories.{holds}
+use Rattle.machine.specs.Stories.{rowHolds}
 use Rattle.machine.specs.Rehearsals.{everyNumberShown, rehearsals}
 
-pub rehearsals-hold : all holds rehearsals ≡ true
+pub rehearsals-hold : all rowHolds rehearsals ≡ true
 unfolding inRange
 rehearsals-hold = refl
 

@@ -12,7 +12,8 @@ use Rattle.machine.specs.Types.{Entry, ClientStore, BeginTake, WorkerSte
 use Rattle.machine.specs.Machine.{done, fresh}
 use Rattle.machine.specs.Update.{pushed, withBuffer, withHead, withMemory, withSpacing, withThief, withWorker}
 use Rattle.machine.specs.Obey.{obey}
-use Rattle.machine.specs.Stories.{Row, margin, story, handed, hiding, brink, beyond, countIs, does, drains, emptySteps, headIs, oneOfEach, thiefMoves, workerGets, workerMoves}
+use Rattle.claim.specs.Stories.{Row, margin, story, handed, hiding, brink, beyond, countIs, does, drains, headIs, oneOfEach, thiefMoves, workerGets, workerMoves}
+use Rattle.machine.specs.Stories.{emptySteps}
 use Rattle.machine.specs.Rehearsals.{m3Sizes}
 
 -- with one thief
@@ -53,7 +54,7 @@ spacedSizes = sized 4 2 6 1 1 0
 -- Steps on machines in range that no schedule reaches. An unlock waits for pending stores, a restoring store for a place in the list and for nothing else; steal 3 goes by its own h; END comes at a tail of
 -- 2,147,483,647 and at no other; the last load of a take sees pending stores; cells past the pending stores are not looked at. A count that a machine brings along, though it says that no take has begun, is no
 -- ground for EARLY, and becomes 0 with the next store that counts; no step of a take changes the count, nor whether a take has begun.
-abbrev pub handedRows : List Row
+abbrev pub handedRows : List (Row Machine)
 handedRows =
     handed (pushed clientStore (withWorker (TakeUnlockTask zeroth) (fresh m3Sizes))) (workerGets Wait ++ drains 1 ++ workerMoves 1 ++ workerGets (Task 0))
     ∷ handed (pushed clientStore (pushed clientStore (withWorker (TakeRestoreTail zeroth) (fresh m3Sizes)))) (workerGets Wait ++ drains 1 ++ workerMoves 1)
@@ -75,7 +76,7 @@ handedRows =
 
 -- A store that is counted past 4,096, the client's and each of a put's; and each step that leads an index out of range: put 2 and 3, take 1, take 2 and 4 at t = head = −1, take 5, steal 3,
 -- and steal 4 at h = −1. No run of at most 4,096 entries gets there (`run-in-range`).
-abbrev pub brinks : List Row
+abbrev pub brinks : List (Row Machine)
 brinks =
     brink (withSpacing countedMost (fresh m3Sizes)) ClientStore Moved
     ∷ brink (withSpacing countedMost (withWorker (PutStoreSlot 5) (fresh m3Sizes))) WorkerStep Moved
@@ -99,7 +100,7 @@ abbrev pub takePendingAt0 : Machine → Machine
 takePendingAt0 m = pushed (tailStore zeroth) (withTail (pos 1) m)
 
 -- The same where a take's store is pending: the number that is handed on is 0 all the same, since it is for the machine that the step leads to.
-abbrev pub hiddenBrinks : List Row
+abbrev pub hiddenBrinks : List (Row Machine)
 hiddenBrinks =
     brink (takePendingAt0 (withSpacing countedMost (fresh m3Sizes))) ClientStore Moved
     ∷ brink (takePendingAt0 (withSpacing countedMost (withWorker (PutStoreSlot 5) (fresh m3Sizes)))) WorkerStep Moved
@@ -146,7 +147,7 @@ outOfRange =
     ∷ []
 
 -- the machines to which a step has led
-abbrev pub afterBrink : Row → List Machine
+abbrev pub afterBrink : Row Machine → List Machine
 afterBrink (margin b s n) = []
 afterBrink (story s l) = []
 afterBrink (handed m l) = []
@@ -161,5 +162,5 @@ HandedBack =
     ≡ map (λ m. map (λ e. done Wait m) oneOfEach) (outOfRange ++ concatMap afterBrink brinks))
     × (map (obey (fresh m3Sizes)) absentThieves ≡ map (λ e. done Wait (fresh m3Sizes)) absentThieves)
 
-abbrev pub handedIn : List Row
+abbrev pub handedIn : List (Row Machine)
 handedIn = handedRows ++ brinks ++ hiddenBrinks ++ map beyond (outOfRange ++ map takePending outOfRange)

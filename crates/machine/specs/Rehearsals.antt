@@ -10,14 +10,15 @@ use lib.IntN.{pos, negsuc}
 use Rattle.terms.specs.Sizes.{sized}
 use Rattle.terms.specs.Lists.{all, concatMap, occurrences, rangeFrom}
 use Rattle.claim.specs.Calls.{worker, thief}
-use Rattle.machine.specs.Types.{Drain, ClientStore, BeginPut, BeginTake, WorkerStep, BeginSteal, ThiefStep, Outcome, Moved, Place, Early, Wait, Stored, Task, Empty, Abort, Full, End, Sizes}
-use Rattle.machine.specs.Stories.{Line, Row, margin, story, does, headIs, tailIs, slotIs, countIs, tasksStand, standing, owed, drains, clientStores, workerMoves, workerGets, thiefMoves, thiefGets, puts, putEnds, takes, steals, filled, undrainedTakes, numbersIn}
+use Rattle.machine.specs.Types.{Drain, ClientStore, BeginPut, BeginTake, WorkerStep, BeginSteal, ThiefStep, Outcome, Moved, Place, Early, Wait, Stored, Task, Empty, Abort, Full, End, Machine, Sizes}
+use Rattle.claim.specs.Stories.{Line, Row, margin, story, does, headIs, tailIs, slotIs, countIs, tasksStand, standing, owed, drains, clientStores, workerMoves, workerGets, thiefMoves, thiefGets, puts, putEnds, takes, filled, undrainedTakes, numbersIn}
+use Rattle.machine.specs.Stories.{steals}
 use Rattle.machine.specs.SpacedTakes.{spacedTakes}
 use Rattle.machine.specs.HiddenStores.{hiddenStores}
 
 -- ── The table ───────────────────────────────────────────────────────────────────────────────────────────────────────────────
 
-abbrev pub m1 : List Row
+abbrev pub m1 : List (Row Machine)
 m1 = margin 33 1 17 ∷ margin 32 0 32 ∷ margin 64 63 1 ∷ []
 
 -- two takes undrained: memory still has the old tail when a thief comes
@@ -236,7 +237,7 @@ callsPastEffect =
 abbrev pub emptyPastEffect : List Line
 emptyPastEffect = does BeginTake Moved ∷ workerMoves 2 ++ drains 1 ++ workerMoves 2 ++ owed worker Empty ∷ workerMoves 1 ++ owed worker Empty ∷ []
 
-abbrev pub stories : List Row
+abbrev pub stories : List (Row Machine)
 stories =
     story m2Sizes m2
     ∷ story m3Sizes m3
@@ -282,7 +283,7 @@ stories =
     ∷ story (sized 4 2 0 2 1 0) emptyPastEffect
     ∷ []
 
-abbrev pub rehearsals : List Row
+abbrev pub rehearsals : List (Row Machine)
 rehearsals = m1 ++ stories ++ spacedTakes ++ hiddenStores
 
 -- ── Every number ────────────────────────────────────────────────────────────────────────────────────────────────────────────

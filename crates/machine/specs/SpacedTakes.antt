@@ -1,8 +1,9 @@
 -- What keeps takes apart, and what does not: rows for the spacing rule of "The machine", as request 1 widens it. They are part of the table of `Rehearsals`.
 use mathlib.Core.List.{List, [], _∷_, _++_}
 use Rattle.terms.specs.Sizes.{sized}
-use Rattle.machine.specs.Types.{ClientStore, BeginPut, BeginTake, BeginSteal, Outcome, Moved, Place, Early, Wait, Stored, Task, Abort, Full, End}
-use Rattle.machine.specs.Stories.{Line, Row, story, does, countIs, tasksStand, standing, drains, clientStores, workerMoves, workerGets, thiefMoves, thiefGets, puts, putEnds, takes, takesNothing, steals, filled}
+use Rattle.machine.specs.Types.{ClientStore, BeginPut, BeginTake, BeginSteal, Outcome, Machine, Moved, Place, Early, Wait, Stored, Task, Abort, Full, End}
+use Rattle.claim.specs.Stories.{Line, Row, story, does, countIs, tasksStand, standing, drains, clientStores, workerMoves, workerGets, thiefMoves, thiefGets, puts, putEnds, takes, filled}
+use Rattle.machine.specs.Stories.{takesNothing, steals}
 
 -- a put between two takes keeps them apart by its two stores: by as much as a spacing of 1 or 2 asks for, and not one of 3; the rule asks for as much whichever margin is set
 abbrev pub putBetweenTakes : Outcome → List Line
@@ -104,7 +105,7 @@ abbrev pub waitCountsNothing : List Line
 waitCountsNothing =
     countIs 0 ∷ filled 2 ++ clientStores 1 ++ takes 2 ++ does ClientStore Wait ∷ countIs 0 ∷ does BeginTake Early ∷ drains 1 ++ does BeginTake Early ∷ []
 
-abbrev pub spacedTakes : List Row
+abbrev pub spacedTakes : List (Row Machine)
 spacedTakes =
     story (sized 4 8 1 4 1 0) (putBetweenTakes Moved)
     ∷ story (sized 4 8 1 0 1 0) (putBetweenTakes Moved)

@@ -1,158 +1,26 @@
--- Rows of the tables over the definitions: a row is a story, entries with their outcomes and looks at the machine meanwhile; such a story with the numbers that its entries hand on; a needed margin; or a machine at the edge of
--- its range, or past it. With words for stories. The rows themselves are in `Rehearsals`, `SpacedTakes`, `HiddenStores` and `Handed`.
-use mathlib.Core.Bool.{Bool, true, not, _&&_}
-use mathlib.Core.List.{List, [], _∷_, _++_, map}
-use Prim.Native.Nat.{ℕ, _-_}
+-- Rows of tables (`Stories`, of `claim`) of FF-THE on its machine, and the words for stories that are its own. The rows themselves are in `Rehearsals`, `SpacedTakes`, `HiddenStores` and `Handed`.
+use mathlib.Core.Bool.{Bool}
+use mathlib.Core.List.{List, _∷_, _++_}
 use lib.Dec.{eqb}
-use lib.IntN.{ℤ}
-use lib.ListN.{getD, length, replicate}
-use Rattle.terms.specs.Sizes.{neededMargin}
-use Rattle.terms.specs.Outcome.{numberOf, valueOf}
-use Rattle.terms.specs.Lists.{all, concatMap, equal, rangeFrom}
+use lib.ListN.{getD}
+use Rattle.claim.specs.Stories.{Line, Looks, Row, does, drains, holds, thiefGets, thiefMoves, workerGets, workerMoves}
 use Rattle.stores.specs.Index.{eqZ}
-use Rattle.claim.specs.PlainQueue.{emptyQueue}
-use Rattle.claim.specs.Calls.{Party, answersTo, noCall}
-use Rattle.claim.specs.Watch.{Watch, watchAfter, watchFresh}
-use Rattle.machine.specs.Types.{Entry, Drain, ClientStore, BeginPut, BeginTake, WorkerStep, BeginSteal, ThiefStep, Machine, Outcome, Moved, Wait, Stored, Task, Empty, Sizes}
+use Rattle.machine.specs.Types.{BeginSteal, BeginTake, Empty, Machine, Moved, Outcome}
 use Rattle.machine.specs.InRange.{inRange}
-use Rattle.machine.specs.Obey.{hiddenOf, obey}
-use Rattle.machine.specs.Linearizable.{ffThe, owes, standingInSlots, standingNow}
+use Rattle.machine.specs.Linearizable.{ffThe}
 
--- ── Rows ────────────────────────────────────────────────────────────────────────────────────────────────────────────────────
+abbrev pub looks : Looks Machine
+looks =
+    record {
+      headIs = λ m z. eqZ (m .head .at) z;
+      tailIs = λ m z. eqZ (m .tail .at) z;
+      slotIs = λ m k x. eqb (getD (m .slots) k 0) x;
+      countIs = λ m n. eqb (m .spacing .count) n;
+      inRange = inRange;
+    }
 
--- A line of a story: an entry with its outcome, or a look at memory's head, at memory's tail, at what one of memory's slots holds, at
--- the spacing count, at how many tasks stand, at the numbers of those in the plain queue and in the slots, or at what a party's call owes and the plain
--- queue has answered to it.
-pub data Line : Type 0 where
-  does : Entry → Outcome → Line
-  headIs : ℤ → Line
-  tailIs : ℤ → Line
-  slotIs : ℕ → ℕ → Line
-  countIs : ℕ → Line
-  tasksStand : ℕ → Line
-  standing : List ℕ → Line
-  owed : Party → Outcome → Line
-
-pub data Row : Type 0 where
-  -- the needed margin of a buffer size and a spacing
-  margin : (buffer spacing needed : ℕ) → Row
-  -- a story that starts at the fresh machine
-  story : Sizes → List Line → Row
-  -- a story that starts at a machine in range, which may be one that no schedule reaches; the plain queue beside it tells nothing
-  handed : Machine → List Line → Row
-  -- such a story, and the number that each of its entries hands on
-  hiding : Machine → List Line → List ℕ → Row
-  -- a machine in range that the entry, with this outcome and the number 0, leads out of range, so that every next operation answers 7
-  brink : Machine → Entry → Outcome → Row
-  -- a machine out of range: every operation answers 7 and hands on 0 (and the machine as it was: `HandedBack`, in `Handed`)
-  beyond : Machine → Row
-
-abbrev pub sameOutcome : Outcome → Outcome → Bool
-sameOutcome o p = eqb (numberOf o) (numberOf p) && eqb (valueOf o) (valueOf p)
-
-abbrev pub sameOutcomes : List Outcome → List Outcome → Bool
-sameOutcomes l m = equal (map numberOf l) (map numberOf m) && equal (map valueOf l) (map valueOf m)
-
-abbrev pub oneOfEach : List Entry
-oneOfEach = Drain ∷ ClientStore ∷ BeginPut 1 ∷ BeginTake ∷ WorkerStep ∷ BeginSteal 0 ∷ ThiefStep 0 ∷ []
-
--- the entry has this outcome, and hands on this number
-abbrev pub hands : Machine → Entry → Outcome → ℕ → Bool
-hands m e o n = sameOutcome (obey m e .outcome) o && eqb (obey m e .hidden) n
-
--- the machine is out of range, and so every operation on it answers 7 and hands on 0
-abbrev pub allWait : Machine → Bool
-allWait m = not (inRange m) && all (λ e. hands m e Wait 0) oneOfEach
-
-abbrev pub comesTrue : Watch Machine → List Line → Bool
-comesTrue w [] = true
-comesTrue w (does e o ∷ l) = sameOutcome (obey (w .machine) e .outcome) o && comesTrue (watchAfter ffThe w e) l
-comesTrue w (headIs z ∷ l) = eqZ (w .machine .head .at) z && comesTrue w l
-comesTrue w (tailIs z ∷ l) = eqZ (w .machine .tail .at) z && comesTrue w l
-comesTrue w (slotIs k x ∷ l) = eqb (getD (w .machine .slots) k 0) x && comesTrue w l
-comesTrue w (countIs n ∷ l) = eqb (w .machine .spacing .count) n && comesTrue w l
-comesTrue w (tasksStand n ∷ l) = eqb (length (w .queue .tasks)) n && comesTrue w l
-comesTrue w (standing xs ∷ l) =
-    equal (map (λ t. t .number) (w .queue .tasks)) xs && equal (standingInSlots (w .machine)) xs && equal (standingNow (w .machine)) xs && comesTrue w l
-comesTrue w (owed p o ∷ l) = sameOutcomes (owes (w .machine) p) (o ∷ []) && sameOutcomes (answersTo (w .calls p)) (o ∷ []) && comesTrue w l
-
--- a machine that is handed in, with a plain queue that knows nothing of it
-abbrev pub watchHanded : Machine → Watch Machine
-watchHanded m = record { machine = m; queue = emptyQueue 0; calls = λ p. noCall }
-
--- the entries of a story
-abbrev pub entryIn : Line → List Entry
-entryIn (does e o) = e ∷ []
-entryIn (headIs z) = []
-entryIn (tailIs z) = []
-entryIn (slotIs k x) = []
-entryIn (countIs n) = []
-entryIn (tasksStand n) = []
-entryIn (standing xs) = []
-entryIn (owed p o) = []
-
-abbrev pub entriesIn : List Line → List Entry
-entriesIn l = concatMap entryIn l
-
-abbrev pub holds : Row → Bool
-holds (margin b s n) = eqb (neededMargin b s) n
-holds (story s l) = comesTrue (watchFresh ffThe s) l
-holds (handed m l) = inRange m && comesTrue (watchHanded m) l
-holds (hiding m l ns) = inRange m && comesTrue (watchHanded m) l && equal (hiddenOf m (entriesIn l)) ns
-holds (brink m e o) = inRange m && hands m e o 0 && allWait (obey m e .machine)
-holds (beyond m) = allWait m
-
--- the number of the outcome in a line
-abbrev pub numberIn : Line → List ℕ
-numberIn (does e o) = numberOf o ∷ []
-numberIn (headIs z) = []
-numberIn (tailIs z) = []
-numberIn (slotIs k x) = []
-numberIn (countIs n) = []
-numberIn (tasksStand n) = []
-numberIn (standing xs) = []
-numberIn (owed p o) = []
-
--- the numbers of the outcomes that a row shows
-abbrev pub numbersIn : Row → List ℕ
-numbersIn (margin b s n) = []
-numbersIn (story s l) = concatMap numberIn l
-numbersIn (handed m l) = concatMap numberIn l
-numbersIn (hiding m l ns) = concatMap numberIn l
-numbersIn (brink m e o) = numberOf o ∷ []
-numbersIn (beyond m) = []
-
--- ── Words for stories ───────────────────────────────────────────────────────────────────────────────────────────────────────
-
-abbrev pub drains : ℕ → List Line
-drains n = replicate n (does Drain Moved)
-
-abbrev pub clientStores : ℕ → List Line
-clientStores n = replicate n (does ClientStore Moved)
-
-abbrev pub workerMoves : ℕ → List Line
-workerMoves n = replicate n (does WorkerStep Moved)
-
-abbrev pub workerGets : Outcome → List Line
-workerGets o = does WorkerStep o ∷ []
-
-abbrev pub thiefMoves : ℕ → List Line
-thiefMoves n = replicate n (does (ThiefStep 0) Moved)
-
-abbrev pub thiefGets : Outcome → List Line
-thiefGets o = does (ThiefStep 0) o ∷ []
-
--- a whole put that is STORED
-abbrev pub puts : ℕ → List Line
-puts x = does (BeginPut x) Moved ∷ workerMoves 2 ++ workerGets Stored
-
--- a whole put that ends at its first step
-abbrev pub putEnds : ℕ → Outcome → List Line
-putEnds x o = does (BeginPut x) Moved ∷ workerGets o
-
--- a whole take that needs no lock
-abbrev pub takes : ℕ → List Line
-takes x = does BeginTake Moved ∷ workerMoves 2 ++ workerGets (Task x)
+abbrev pub rowHolds : Row Machine → Bool
+rowHolds r = holds ffThe looks r
 
 -- the steps of a take that finds no task, drained where needed; and the whole take
 abbrev pub emptySteps : List Line
@@ -164,11 +32,3 @@ takesNothing = does BeginTake Moved ∷ emptySteps
 -- a whole steal
 abbrev pub steals : Outcome → List Line
 steals o = does (BeginSteal 0) Moved ∷ thiefMoves 5 ++ thiefGets o
-
--- puts of 1 to n, each fully drained
-abbrev pub filled : ℕ → List Line
-filled n = concatMap (λ x. puts x ++ drains 2) (rangeFrom 1 n)
-
--- so many takes, from the task with that number down, undrained, with client stores between each two
-abbrev pub undrainedTakes : ℕ → ℕ → List Line
-undrainedTakes n apart = takes n ++ concatMap (λ k. clientStores apart ++ takes (n - k)) (rangeFrom 1 (n - 1))

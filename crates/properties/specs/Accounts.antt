@@ -6,7 +6,7 @@ use Prim.Native.Nat.{ℕ}
 use Rattle.terms.specs.Lists.{equal}
 use Rattle.terms.specs.Sizes.{sized}
 use Rattle.machine.specs.Linearizable.{ffThe}
-use Rattle.machine.specs.Stories.{Line, does, drains, entriesIn, filled, puts, thiefMoves, workerMoves}
+use Rattle.claim.specs.Stories.{Line, does, drains, entriesIn, filled, puts, thiefMoves, workerMoves}
 use Rattle.machine.specs.Rehearsals.{m2, m2Sizes, m3, m3Sizes}
 use Rattle.properties.specs.Types.{BeginSteal, BeginTake, Moved, Sizes}
 use Rattle.properties.specs.ExactlyOnce.{ExactlyOnce, given, held, numberedApart, standing, stored}

@@ -11,8 +11,9 @@ use Rattle.claim.specs.Implementation.{Implementation}
 use Rattle.claim.specs.Run.{hiddenOf, machineAfter}
 use Rattle.claim.specs.Watch.{watchFresh}
 use Rattle.machine.specs.Linearizable.{ffThe}
+use Rattle.machine.specs.Stories.{looks}
 use Rattle.machine.specs.Machine.{fresh}
-use Rattle.machine.specs.Stories.{Line, comesTrue, does, entriesIn, filled, undrainedTakes, workerMoves}
+use Rattle.claim.specs.Stories.{Line, comesTrue, does, entriesIn, filled, undrainedTakes, workerMoves}
 use Rattle.properties.specs.Types.{BeginTake, Entry, Moved, Sizes}
 
 -- after any entry of any list the number is at most the needed margin, whichever margin is set
@@ -35,7 +36,7 @@ pub data Row : Type 0 where
 
 -- the run is as the story says, and the largest number of its entries is the needed margin
 abbrev pub reaches : Row → Bool
-reaches (row s l) = comesTrue (watchFresh ffThe s) l && eqb (largest (hiddenOf ffThe (fresh s) (entriesIn l))) (neededMargin (s .buffer) (s .spacing))
+reaches (row s l) = comesTrue ffThe looks (watchFresh ffThe s) l && eqb (largest (hiddenOf ffThe (fresh s) (entriesIn l))) (neededMargin (s .buffer) (s .spacing))
 
 -- so many takes undrained, with so many client stores between each two
 abbrev pub lagging : ℕ → ℕ → List Line

@@ -11,7 +11,7 @@ use Rattle.claim.specs.Linearizable.{Linearizable, tasksOf}
 use Rattle.machine.specs.Types.{Abort, BeginTake, Moved, Sizes, Stored, Task}
 use Rattle.machine.specs.InRange.{inRange}
 use Rattle.machine.specs.Linearizable.{ffThe}
-use Rattle.machine.specs.Stories.{Line, does, entriesIn, filled, workerMoves}
+use Rattle.claim.specs.Stories.{Line, does, entriesIn, filled, workerMoves}
 use Rattle.machine.specs.Rehearsals.{m2, m2Sizes, m3, m3Sizes}
 
 -- three numbers have been handed out, 12, 11 and again 11, though two puts were STORED
