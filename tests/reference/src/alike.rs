@@ -1,6 +1,7 @@
 //! Whether two schedules come to the same for everybody who takes part.
 
 use crate::bench::Bench;
+use crate::calls::Locking;
 use crate::entry::Entry;
 use crate::format::decode;
 use crate::outcome::Outcome;
@@ -24,7 +25,7 @@ pub fn alike(first: &[u8], second: &[u8]) -> Result<bool, Refusal> {
 /// The answers by party: the worker first, then the thieves in their order.
 fn answers(sizes: &Sizes, entries: &[Entry<u32>]) -> Vec<Vec<Outcome<u32>>> {
     let mut answers = vec![Vec::new(); 1 + sizes.thieves as usize];
-    let mut bench = Bench::new(sizes);
+    let mut bench = Bench::<Locking, u32>::new(sizes);
     for &entry in entries {
         let outcome = bench.obey(entry);
         if outcome.is_answer() {

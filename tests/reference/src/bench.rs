@@ -1,20 +1,22 @@
 //! The bench: the parties around one machine, and who may do what when.
 //!
 //! Here stand the rules for beginning a call, the spacing rule, and the order
-//! in which an entry's obstacles are looked at.
+//! in which an entry's obstacles are looked at. They are the same for every
+//! queue `Q`.
 
 use std::convert::identity;
 
-use crate::calls::{Progress, Put, Steal, Step, Take};
+use crate::calls::{Progress, Put, Queue, Step};
 use crate::entry::Entry;
 use crate::machine::{Machine, Wait};
 use crate::outcome::Outcome;
 use crate::sizes::Sizes;
 
+/// A call of the worker, `K` being what its queue has for a take.
 #[derive(Debug, Clone, Copy, PartialEq, Eq)]
-pub(crate) enum WorkerCall<T> {
+pub(crate) enum WorkerCall<K, T> {
     Put(Put<T>),
-    Take(Take),
+    Take(K),
 }
 
 /// What the spacing rule has to know about the latest take.
@@ -37,17 +39,16 @@ impl SinceTake {
     }
 }
 
-#[derive(Debug, Clone)]
-pub(crate) struct Bench<T> {
+pub(crate) struct Bench<Q: Queue, T: Copy> {
     machine: Machine<T>,
-    worker: Option<WorkerCall<T>>,
-    thieves: Vec<Option<Steal<T>>>,
+    worker: Option<WorkerCall<Q::Take, T>>,
+    thieves: Vec<Option<Q::Steal<T>>>,
     margin: i64,
     spacing: u32,
     since_take: SinceTake,
 }
 
-impl<T: Copy + Default> Bench<T> {
+impl<Q: Queue, T: Copy + Default> Bench<Q, T> {
     pub(crate) fn new(sizes: &Sizes) -> Self {
         let thieves = vec![None; sizes.thieves as usize];
         let since_take = SinceTake::default();
@@ -59,8 +60,8 @@ impl<T: Copy + Default> Bench<T> {
     pub(crate) fn resumed(
         sizes: &Sizes,
         machine: Machine<T>,
-        worker: Option<WorkerCall<T>>,
-        thieves: Vec<Option<Steal<T>>>,
+        worker: Option<WorkerCall<Q::Take, T>>,
+        thieves: Vec<Option<Q::Steal<T>>>,
         since_take: SinceTake,
     ) -> Self {
         Bench {
@@ -84,7 +85,9 @@ impl<T: Copy + Default> Bench<T> {
             }
             Entry::BeginTake => self.begin_take(),
             Entry::WorkerStep => self.worker_step(),
-            Entry::BeginSteal(thief) => begin(&mut self.thieves[thief as usize], Steal::Lock),
+            Entry::BeginSteal(thief) => {
+                begin(&mut self.thieves[thief as usize], Q::Steal::default())
+            }
             Entry::ThiefStep(thief) => self.thief_step(thief as usize),
         };
         if keeps_takes_apart && !outcome.is_refused() {
@@ -126,18 +129,18 @@ impl<T: Copy + Default> Bench<T> {
             begun: true,
             stores: 0,
         };
-        begin(&mut self.worker, WorkerCall::Take(Take::StoreTail))
+        begin(&mut self.worker, WorkerCall::Take(Q::Take::default()))
     }
 
     fn worker_step(&mut self) -> Outcome<T> {
         match self.worker {
             None => Outcome::Place,
             Some(WorkerCall::Put(put)) => {
-                let step = put.step(&mut self.machine);
+                let step = put.step::<Q>(&mut self.machine);
                 advance(&mut self.worker, WorkerCall::Put, step)
             }
             Some(WorkerCall::Take(take)) => {
-                let step = take.step(&mut self.machine);
+                let step = Q::step_take(take, &mut self.machine);
                 advance(&mut self.worker, WorkerCall::Take, step)
             }
         }
@@ -147,22 +150,22 @@ impl<T: Copy + Default> Bench<T> {
         let Some(steal) = self.thieves[thief] else {
             return Outcome::Place;
         };
-        let step = steal.step(&mut self.machine, self.margin);
+        let step = Q::step_steal(steal, &mut self.machine, self.margin);
         advance(&mut self.thieves[thief], identity, step)
     }
 }
 
 /// What an onlooker may see; none of it moves anything.
-impl<T: Copy + Default> Bench<T> {
+impl<Q: Queue, T: Copy + Default> Bench<Q, T> {
     pub(crate) fn machine(&self) -> &Machine<T> {
         &self.machine
     }
 
-    pub(crate) fn worker_call(&self) -> Option<WorkerCall<T>> {
+    pub(crate) fn worker_call(&self) -> Option<WorkerCall<Q::Take, T>> {
         self.worker
     }
 
-    pub(crate) fn thief_call(&self, thief: u32) -> Option<Steal<T>> {
+    pub(crate) fn thief_call(&self, thief: u32) -> Option<Q::Steal<T>> {
         self.thieves[thief as usize]
     }
 

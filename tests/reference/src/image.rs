@@ -9,6 +9,7 @@ mod calls;
 mod range;
 
 use crate::bench::{Bench, SinceTake};
+use crate::calls::Locking;
 use crate::entry::Entry;
 use crate::machine::{Machine, Memory, Store, Wait};
 use crate::outcome::{Outcome, Totals};
@@ -143,7 +144,7 @@ impl Image {
     /// The bench that a machine in range stands for. The stores are made once
     /// more, each as the worker made it, so that what the machine keeps about
     /// them comes out as if it had been there all the time.
-    fn bench(&self, sizes: &Sizes) -> Result<Bench<u32>, Wait> {
+    fn bench(&self, sizes: &Sizes) -> Result<Bench<Locking, u32>, Wait> {
         let mut machine = Machine::with_memory(self.memory(sizes), sizes);
         for which in 0..self.0[PENDING] as usize {
             match self.cells(STORES, which) {
@@ -185,7 +186,7 @@ impl Image {
 /// From a bench back to the row.
 impl Image {
     /// Takes over what the bench has become by obeying `entry`.
-    fn follow(&mut self, bench: &Bench<u32>, entry: Entry<u32>) {
+    fn follow(&mut self, bench: &Bench<Locking, u32>, entry: Entry<u32>) {
         self.follow_memory(bench.machine().memory(), entry);
         self.follow_stores(bench.machine().pending());
         self.follow_spacing(bench.since_take());

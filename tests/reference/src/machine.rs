@@ -118,7 +118,8 @@ impl<T: Copy + Default> Machine<T> {
 
     /// How many stores of take step 1 are pending: tail stores below the tail
     /// store before them or, for the first, below memory's tail. No other step
-    /// lowers the tail: a put raises it, and an empty take puts it back up.
+    /// lowers the tail: a put raises it, and a take that stores it once more
+    /// puts it back up.
     pub(crate) fn hidden(&self) -> u32 {
         self.hidden
     }
@@ -169,6 +170,12 @@ impl<T: Copy + Default> Machine<T> {
         Ok(())
     }
 
+    /// Waits for the store buffer too, whether the swap will succeed or not.
+    pub(crate) fn worker_swap_head(&mut self, h: i64) -> Result<bool, Wait> {
+        self.buffer_is_empty()?;
+        Ok(self.swap_head(h))
+    }
+
     fn buffer_is_empty(&self) -> Result<(), Wait> {
         if self.pending.is_empty() {
             Ok(())
@@ -194,6 +201,16 @@ impl<T: Copy + Default> Machine<T> {
 
     pub(crate) fn set_head(&mut self, head: i64) {
         self.memory.head = head;
+    }
+
+    /// Compares and swaps: moves the head on from `h` if that is where it is,
+    /// and says whether it was.
+    pub(crate) fn swap_head(&mut self, h: i64) -> bool {
+        let is_there = self.memory.head == h;
+        if is_there {
+            self.memory.head = h + 1;
+        }
+        is_there
     }
 
     pub(crate) fn memory_tail(&self) -> i64 {
@@ -225,7 +242,7 @@ impl<T: Copy + Default> Machine<T> {
 #[cfg(test)]
 mod tests {
     use super::*;
-    use crate::common::Dice;
+    use crate::common::{Dice, SIZES};
 
     /// A store of any kind, a tail now and then far from the one before.
     fn store(machine: &mut Machine<u32>, dice: &mut Dice) -> Result<(), Wait> {
@@ -237,6 +254,30 @@ mod tests {
             1 => machine.worker_store(tail, 9),
             _ => machine.worker_store_tail(before, tail),
         }
+    }
+
+    #[test]
+    fn a_swap_finds_the_head_once() {
+        let mut machine = Machine::<u32>::new(&SIZES);
+        assert_eq!(machine.worker_swap_head(0), Ok(true));
+        assert!(!machine.swap_head(0));
+        assert_eq!(machine.worker_swap_head(0), Ok(false));
+        assert!(!machine.swap_head(2), "it is not there yet");
+        assert!(machine.swap_head(1));
+        assert_eq!(machine.head(), 2);
+    }
+
+    #[test]
+    fn only_the_workers_swap_waits_for_the_store_buffer() {
+        let mut machine = Machine::<u32>::new(&SIZES);
+        machine.client_store().expect("there is a place");
+        assert_eq!(machine.worker_swap_head(0), Err(Wait));
+        assert_eq!(machine.worker_swap_head(5), Err(Wait), "in vain as well");
+        assert_eq!(machine.head(), 0);
+        assert!(machine.swap_head(0));
+        machine.drain().expect("a store is pending");
+        assert_eq!(machine.worker_swap_head(0), Ok(false));
+        assert_eq!(machine.worker_swap_head(1), Ok(true));
     }
 
     #[test]

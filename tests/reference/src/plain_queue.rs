@@ -6,10 +6,14 @@
 //! brought them: a stamp travels with the task number through store buffer and
 //! slots, and the machine, for which slot contents are opaque, cannot act on it.
 
+mod effects;
+
+pub(crate) use effects::Watched;
+
 use std::collections::VecDeque;
 
 use crate::bench::{Bench, WorkerCall};
-use crate::calls::{Put, Steal, Take, LAST_TAIL};
+use crate::calls::{Locking, Put, Swapping, LAST_TAIL};
 use crate::entry::Entry;
 use crate::format::decode;
 use crate::outcome::Outcome;
@@ -41,7 +45,6 @@ pub struct Difference {
     pub why: &'static str,
 }
 
-const FULL_TOO_SOON: &str = "FULL with fewer than slots - 1 tasks standing";
 const STORED_TOO_LATE: &str = "STORED with every slot already standing for a task";
 const STOLEN_FROM_NOTHING: &str = "a steal without ABORT where no task stands";
 const OTHER_ANSWER: &str = "the answer is not the plain queue's";
@@ -50,8 +53,17 @@ const OTHER_VIEW: &str = "the worker would load other tasks than those that stan
 
 /// Runs the schedule with the plain queue beside it; any margin will do.
 pub fn judge(file: &[u8]) -> Result<Verdict, Refusal> {
+    judge_on::<Locking>(file)
+}
+
+/// Like [`judge`], with the compare-and-swap queue.
+pub fn judge_cas(file: &[u8]) -> Result<Verdict, Refusal> {
+    judge_on::<Swapping>(file)
+}
+
+pub(crate) fn judge_on<Q: Watched>(file: &[u8]) -> Result<Verdict, Refusal> {
     let (sizes, entries) = decode(file)?;
-    let mut watch = Watch::new(&sizes, entries.len());
+    let mut watch = Watch::<Q>::new(&sizes, entries.len());
     for (place, entry) in entries.into_iter().enumerate() {
         let put = Some(place);
         watch.obey(place, entry.map_task(|number| Stamped { number, put }));
@@ -66,7 +78,7 @@ pub fn judge(file: &[u8]) -> Result<Verdict, Refusal> {
 /// A task number with the entry at which its put began. A slot that no put
 /// has reached has no stamp.
 #[derive(Debug, Clone, Copy, PartialEq, Eq, Default)]
-struct Stamped {
+pub(crate) struct Stamped {
     number: u32,
     put: Option<usize>,
 }
@@ -79,35 +91,52 @@ impl From<Stamped> for u32 {
 
 /// A call that takes effect, with what only its step could decide.
 #[derive(Debug, Clone, Copy)]
-enum Told {
-    Put { task: Stamped, full: bool },
-    Take,
-    Steal { abort: bool },
+pub(crate) enum Told {
+    Put {
+        task: Stamped,
+        full: bool,
+    },
+    Take {
+        /// Whether a swap has decided if the take has a task.
+        by_swap: bool,
+    },
+    Steal {
+        abort: bool,
+    },
 }
 
 struct PlainQueue {
     /// Oldest first.
     standing: VecDeque<Stamped>,
-    /// Where the worker's tail would be: start + stored - taken.
+    /// Where the worker's tail would be: start + stored - taken, takes by a
+    /// swap left out.
     sum: i64,
     slots: usize,
+    /// FULL comes only with so many tasks standing; with fewer it is the fault
+    /// named next.
+    full_from: usize,
+    full_too_soon: &'static str,
 }
 
 impl PlainQueue {
-    fn new(sizes: &Sizes) -> PlainQueue {
+    fn new<Q: Watched>(sizes: &Sizes) -> PlainQueue {
+        let slots = sizes.slots as usize;
         PlainQueue {
             standing: VecDeque::new(),
             sum: i64::from(sizes.start),
-            slots: sizes.slots as usize,
+            slots,
+            full_from: Q::full_from(slots),
+            full_too_soon: Q::FULL_TOO_SOON,
         }
     }
 
     /// Answers the call, or names the limit that the telling itself breaks.
+    #[inline] // which a function that is called for two queues needs
     fn tell(&mut self, told: Told) -> Result<Outcome<Stamped>, &'static str> {
         match told {
             Told::Put { .. } if self.sum == LAST_TAIL => Ok(Outcome::End),
-            Told::Put { full: true, .. } if self.standing.len() < self.slots - 1 => {
-                Err(FULL_TOO_SOON)
+            Told::Put { full: true, .. } if self.standing.len() < self.full_from => {
+                Err(self.full_too_soon)
             }
             Told::Put { full: true, .. } => Ok(Outcome::Full),
             Told::Put { .. } if self.standing.len() >= self.slots => Err(STORED_TOO_LATE),
@@ -116,7 +145,7 @@ impl PlainQueue {
                 self.sum += 1;
                 Ok(Outcome::Stored)
             }
-            Told::Take => Ok(self.take()),
+            Told::Take { by_swap } => Ok(self.take(by_swap)),
             Told::Steal { abort: true } => Ok(Outcome::Abort),
             Told::Steal { abort: false } => {
                 let oldest = self.standing.pop_front().ok_or(STOLEN_FROM_NOTHING)?;
@@ -125,11 +154,13 @@ impl PlainQueue {
         }
     }
 
-    fn take(&mut self) -> Outcome<Stamped> {
+    /// A swap that is won lifts the head to the tail instead of lowering the
+    /// tail, so the sum stays.
+    fn take(&mut self, by_swap: bool) -> Outcome<Stamped> {
         match self.standing.pop_back() {
             None => Outcome::Empty,
             Some(newest) => {
-                self.sum -= 1;
+                self.sum -= i64::from(!by_swap);
                 Outcome::Task(newest)
             }
         }
@@ -146,8 +177,8 @@ struct Sight {
 /// The worker, as a row of [`Watch::owed`]; thieves follow it.
 const WORKER: usize = 0;
 
-struct Watch {
-    bench: Bench<Stamped>,
+struct Watch<Q: Watched> {
+    bench: Bench<Q, Stamped>,
     plain: PlainQueue,
     /// By party, the plain queue's answer to a call that has taken effect.
     owed: Vec<Option<Outcome<Stamped>>>,
@@ -156,11 +187,11 @@ struct Watch {
     first_difference: Option<Difference>,
 }
 
-impl Watch {
-    fn new(sizes: &Sizes, entries: usize) -> Watch {
+impl<Q: Watched> Watch<Q> {
+    fn new(sizes: &Sizes, entries: usize) -> Self {
         Watch {
             bench: Bench::new(sizes),
-            plain: PlainQueue::new(sizes),
+            plain: PlainQueue::new::<Q>(sizes),
             owed: vec![None; 1 + sizes.thieves as usize],
             ledger: Ledger::new(entries),
             lost: 0,
@@ -190,15 +221,26 @@ impl Watch {
     fn see_worker_step(&mut self) -> Sight {
         let before = self.bench.worker_call();
         let outcome = self.bench.obey(Entry::WorkerStep);
-        let after = self.bench.worker_call();
+        let told = match before {
+            None => None,
+            Some(WorkerCall::Put(put)) => told_by_put(put, outcome),
+            Some(WorkerCall::Take(take)) => Q::told_by_take(take, self.running_take()),
+        };
         let loaded = match outcome {
             Outcome::Task(task) => Some(task),
             _ => None,
         };
         Sight {
-            told: before.and_then(|before| told_by_worker(before, after, outcome)),
+            told,
             loaded,
             outcome,
+        }
+    }
+
+    fn running_take(&self) -> Option<Q::Take> {
+        match self.bench.worker_call() {
+            Some(WorkerCall::Take(take)) => Some(take),
+            _ => None,
         }
     }
 
@@ -206,17 +248,9 @@ impl Watch {
         let before = self.bench.thief_call(thief);
         let outcome = self.bench.obey(Entry::ThiefStep(thief));
         let after = self.bench.thief_call(thief);
-        let (told, loaded) = match (before, after) {
-            (Some(Steal::LoadTail { .. }), Some(Steal::LoadSlot { .. })) => {
-                (Some(Told::Steal { abort: false }), None)
-            }
-            (Some(Steal::LoadTail { .. }), Some(Steal::LowerHead { .. })) => {
-                (Some(Told::Steal { abort: true }), None)
-            }
-            (Some(Steal::LoadSlot { .. }), Some(Steal::UnlockWithTask { task })) => {
-                (None, Some(task))
-            }
-            _ => (None, None),
+        let (told, loaded) = match before {
+            Some(before) => Q::shown_by_steal(before, after, outcome),
+            None => (None, None),
         };
         Sight {
             told,
@@ -241,7 +275,7 @@ impl Watch {
         let owed = self.owed[party];
         if sight.outcome.is_answer() {
             self.owed[party] = None;
-            if owed.map(in_trace) != Some(in_trace(sight.outcome)) {
+            if !is_due(sight.outcome, party, owed) {
                 return Err(OTHER_ANSWER);
             }
         }
@@ -262,32 +296,28 @@ impl Watch {
     }
 }
 
+/// Whether a party may answer so, by what the plain queue owes it. A steal that
+/// finds the queue empty is owed nothing: a put may lag, so that steal has no
+/// effect, and the plain queue is not told of it.
+fn is_due(answer: Outcome<Stamped>, party: usize, owed: Option<Outcome<Stamped>>) -> bool {
+    match owed {
+        Some(owed) => in_trace(answer) == in_trace(owed),
+        None => party != WORKER && answer == Outcome::Empty,
+    }
+}
+
 /// An answer as its reader sees it, without the stamp.
 fn in_trace(answer: Outcome<Stamped>) -> (u8, u32) {
     (answer.number(), answer.value())
 }
 
-/// The call of the worker that took effect with this step, if one did. A take
-/// does so where it first knows whether it has a task: after a low head at
-/// once, after a high one only under the lock.
-fn told_by_worker(
-    before: WorkerCall<Stamped>,
-    after: Option<WorkerCall<Stamped>>,
-    outcome: Outcome<Stamped>,
-) -> Option<Told> {
+/// The put, if it took effect with this step, which is the same for all queues.
+fn told_by_put(before: Put<Stamped>, outcome: Outcome<Stamped>) -> Option<Told> {
     match (before, outcome) {
-        (WorkerCall::Put(Put::LoadHead { task }), Outcome::Full) => {
-            Some(Told::Put { task, full: true })
-        }
-        (WorkerCall::Put(Put::LoadHead { task }), Outcome::End)
-        | (WorkerCall::Put(Put::StoreTail { task }), Outcome::Stored) => {
+        (Put::LoadHead { task }, Outcome::Full) => Some(Told::Put { task, full: true }),
+        (Put::LoadHead { task }, Outcome::End) | (Put::StoreTail { task }, Outcome::Stored) => {
             Some(Told::Put { task, full: false })
         }
-        (WorkerCall::Take(Take::LoadHead { .. }), Outcome::Moved) => {
-            let decided = matches!(after, Some(WorkerCall::Take(Take::LoadSlot { .. })));
-            decided.then_some(Told::Take)
-        }
-        (WorkerCall::Take(Take::LoadHeadAgain { .. }), Outcome::Moved) => Some(Told::Take),
         _ => None,
     }
 }
@@ -320,6 +350,7 @@ impl Ledger {
         }
     }
 
+    #[inline] // as for `tell`
     fn record(&mut self, sight: &Sight) {
         match (sight.outcome, sight.told) {
             (Outcome::Stored, Some(Told::Put { task, .. })) => {
@@ -369,6 +400,9 @@ mod tests {
         start: 0x7fff_fffd,
     };
 
+    const TAKE: Told = Told::Take { by_swap: false };
+    const TAKE_BY_SWAP: Told = Told::Take { by_swap: true };
+
     fn task(put: usize) -> Stamped {
         Stamped {
             number: 9,
@@ -385,7 +419,7 @@ mod tests {
 
     #[test]
     fn the_plain_queue_is_two_ended() {
-        let mut plain = PlainQueue::new(&SIZES);
+        let mut plain = PlainQueue::new::<Locking>(&SIZES);
         assert_eq!(plain.tell(put(0, false)), Ok(Outcome::Stored));
         assert_eq!(plain.tell(put(1, false)), Ok(Outcome::Stored));
         assert_eq!(plain.tell(put(2, false)), Ok(Outcome::End));
@@ -395,8 +429,8 @@ mod tests {
             plain.tell(Told::Steal { abort: false }),
             Ok(Outcome::Task(task(0)))
         );
-        assert_eq!(plain.tell(Told::Take), Ok(Outcome::Task(task(1))));
-        assert_eq!(plain.tell(Told::Take), Ok(Outcome::Empty));
+        assert_eq!(plain.tell(TAKE), Ok(Outcome::Task(task(1))));
+        assert_eq!(plain.tell(TAKE), Ok(Outcome::Empty));
         assert_eq!(
             plain.tell(put(4, false)),
             Ok(Outcome::Stored),
@@ -410,9 +444,27 @@ mod tests {
     }
 
     #[test]
+    fn a_take_by_swap_leaves_the_sum() {
+        let mut plain = PlainQueue::new::<Swapping>(&SIZES);
+        assert_eq!(plain.tell(put(0, false)), Ok(Outcome::Stored));
+        assert_eq!(plain.tell(put(1, false)), Ok(Outcome::Stored));
+        assert_eq!(plain.tell(TAKE), Ok(Outcome::Task(task(1))));
+        assert_eq!(plain.tell(TAKE_BY_SWAP), Ok(Outcome::Task(task(0))));
+        assert_eq!(plain.tell(TAKE_BY_SWAP), Ok(Outcome::Empty));
+        assert_eq!(
+            plain.tell(put(2, false)),
+            Ok(Outcome::Stored),
+            "one take of two lowers the sum"
+        );
+        assert_eq!(plain.tell(put(3, false)), Ok(Outcome::End));
+        assert_eq!(plain.tell(TAKE_BY_SWAP), Ok(Outcome::Task(task(2))));
+        assert_eq!(plain.tell(put(4, false)), Ok(Outcome::End));
+    }
+
+    #[test]
     fn what_the_plain_queue_is_told_has_limits() {
-        let mut plain = PlainQueue::new(&Sizes { start: 0, ..SIZES });
-        assert_eq!(plain.tell(put(0, true)), Err(FULL_TOO_SOON));
+        let mut plain = PlainQueue::new::<Locking>(&Sizes { start: 0, ..SIZES });
+        assert_eq!(plain.tell(put(0, true)), Err(Locking::FULL_TOO_SOON));
         assert_eq!(
             plain.tell(Told::Steal { abort: false }),
             Err(STOLEN_FROM_NOTHING)
@@ -423,8 +475,19 @@ mod tests {
         assert_eq!(plain.tell(put(2, false)), Err(STORED_TOO_LATE));
     }
 
+    #[test]
+    fn with_swaps_full_comes_one_task_later() {
+        let mut plain = PlainQueue::new::<Swapping>(&Sizes { start: 0, ..SIZES });
+        for which in 0..2 {
+            assert_eq!(plain.tell(put(which, true)), Err(Swapping::FULL_TOO_SOON));
+            assert_eq!(plain.tell(put(which, false)), Ok(Outcome::Stored));
+        }
+        assert_eq!(plain.tell(put(2, true)), Ok(Outcome::Full));
+        assert_eq!(plain.tell(put(2, false)), Err(STORED_TOO_LATE));
+    }
+
     /// A watch whose thief is in a steal that has been given task 0.
-    fn steal_in_effect() -> Watch {
+    fn steal_in_effect() -> Watch<Locking> {
         let mut watch = Watch::new(&SIZES, 8);
         watch.bench.obey(Entry::BeginSteal(0));
         watch.plain.standing.push_back(task(0));
@@ -464,9 +527,39 @@ mod tests {
         );
     }
 
+    /// Only a thief may, and only where its steal has taken no effect.
+    #[test]
+    fn an_empty_steal_is_owed_nothing() {
+        let mut watch = Watch::<Swapping>::new(&SIZES, 8);
+        watch.bench.obey(Entry::BeginSteal(0));
+        watch.plain.standing.push_back(task(0));
+        let empty = sight(None, None, Outcome::Empty);
+        assert_eq!(watch.compare(1, &empty), Ok(()));
+        assert_eq!(watch.compare(WORKER, &empty), Err(OTHER_ANSWER));
+        let abort = sight(None, None, Outcome::Abort);
+        assert_eq!(watch.compare(1, &abort), Err(OTHER_ANSWER));
+        assert_eq!(steal_in_effect().compare(1, &empty), Err(OTHER_ANSWER));
+    }
+
+    /// With swaps a steal takes effect, has loaded and answers all at once.
+    #[test]
+    fn a_steal_by_swap_is_held_against_the_oldest_task() {
+        let after_stealing = |loaded| {
+            let mut watch = Watch::<Swapping>::new(&SIZES, 8);
+            watch.bench.obey(Entry::BeginTake);
+            watch.plain.standing.extend([task(0), task(1)]);
+            let told = Some(Told::Steal { abort: false });
+            watch.compare(1, &sight(told, Some(loaded), Outcome::Task(loaded)))
+        };
+        assert_eq!(after_stealing(task(0)), Ok(()));
+        assert_eq!(after_stealing(task(1)), Err(OTHER_TASK));
+        let other_number = Stamped::default();
+        assert_eq!(after_stealing(other_number), Err(OTHER_ANSWER));
+    }
+
     #[test]
     fn a_task_that_only_one_side_has_is_noticed() {
-        let mut watch = Watch::new(&SIZES, 8);
+        let mut watch = Watch::<Locking>::new(&SIZES, 8);
         watch.plain.standing.push_back(task(0));
         watch.obey(3, Entry::ClientStore);
         let why = OTHER_VIEW;

@@ -4,18 +4,24 @@
 //! through the schedule file, and the trace must tell the story again. After
 //! every entry the number that the machine keeps of takes' stores pending must
 //! be the one that a pass over all stores finds.
+//!
+//! Stories of the queue with compare-and-swap are told in `swapping`, all
+//! others on the queue with a lock.
 
 mod hidden;
 mod spacing;
+mod swapping;
 
 use crate::bench::Bench;
+use crate::calls::Locking;
 use crate::entry::Entry;
 use crate::outcome::Outcome::{
     self, Abort, Early, Empty, End, Full, Moved, Place, Stored, Task, Wait,
 };
-use crate::plain_queue::{judge, Difference, Verdict};
+use crate::plain_queue::{judge_on, Difference, Verdict, Watched};
 use crate::sizes::{needed_margin, Sizes};
-use crate::{run, write, Summary};
+use crate::trace::run_on;
+use crate::{write, Summary};
 
 const ROOMY: Sizes = Sizes {
     slots: 4,
@@ -26,9 +32,9 @@ const ROOMY: Sizes = Sizes {
     start: 0,
 };
 
-struct Stage {
+struct Stage<Q: Watched = Locking> {
     sizes: Sizes,
-    bench: Bench<u32>,
+    bench: Bench<Q, u32>,
     kinds: Vec<u8>,
     operands: Vec<u32>,
     outcomes: Vec<Outcome<u32>>,
@@ -36,8 +42,21 @@ struct Stage {
     hidden: Vec<u32>,
 }
 
+/// For the queue with a lock, which most stories are about.
 impl Stage {
     fn new(sizes: Sizes) -> Stage {
+        Stage::on(sizes)
+    }
+
+    fn steal(&mut self, thief: u32) -> Outcome<u32> {
+        assert_eq!(self.begin_steal(thief), Moved);
+        self.thief_steps(thief, 5);
+        self.thief(thief)
+    }
+}
+
+impl<Q: Watched> Stage<Q> {
+    fn on(sizes: Sizes) -> Self {
         Stage {
             sizes,
             bench: Bench::new(&sizes),
@@ -46,6 +65,15 @@ impl Stage {
             outcomes: Vec::new(),
             hidden: Vec::new(),
         }
+    }
+
+    /// The stage with tasks 1 to `tasks` put, all of them in memory.
+    fn holding(mut self, tasks: u32) -> Self {
+        for task in 1..=tasks {
+            assert_eq!(self.put_with_drains(task), Stored);
+        }
+        assert_eq!(self.hidden(), 0);
+        self
     }
 
     fn obey(&mut self, kind: u8, operand: u32) -> Outcome<u32> {
@@ -91,6 +119,19 @@ impl Stage {
         while self.drain() == Moved {}
     }
 
+    /// Takes tasks from `newest` down to `oldest`, with no drain and no more
+    /// client stores in between than they need.
+    fn take_close_together(&mut self, newest: u32, oldest: u32) {
+        for task in (oldest..=newest).rev() {
+            assert_eq!(self.take(), Task(task));
+            if task > oldest {
+                for _ in 0..self.sizes.spacing {
+                    assert_eq!(self.client_store(), Moved);
+                }
+            }
+        }
+    }
+
     fn thief_steps(&mut self, thief: u32, steps: usize) {
         for _ in 0..steps {
             assert_eq!(self.thief(thief), Moved);
@@ -118,6 +159,17 @@ impl Stage {
         self.worker_goes_on()
     }
 
+    /// A put with a drain wherever it has to wait for one, and after it.
+    fn put_with_drains(&mut self, task: u32) -> Outcome<u32> {
+        let mut outcome = self.put(task);
+        while outcome == Wait {
+            self.drain_all();
+            outcome = self.worker_goes_on();
+        }
+        self.drain_all();
+        outcome
+    }
+
     fn take(&mut self) -> Outcome<u32> {
         assert_eq!(self.begin_take(), Moved);
         self.worker_goes_on()
@@ -131,12 +183,6 @@ impl Stage {
             outcome = self.worker_goes_on();
         }
         outcome
-    }
-
-    fn steal(&mut self, thief: u32) -> Outcome<u32> {
-        assert_eq!(self.begin_steal(thief), Moved);
-        self.thief_steps(thief, 5);
-        self.thief(thief)
     }
 
     fn indices(&self) -> (i64, i64) {
@@ -160,7 +206,7 @@ impl Stage {
     /// The summary and the trace of the same entries in a schedule file.
     fn told_again(&self) -> (Summary, Vec<u8>) {
         let mut trace = vec![0xee; 4 + 5 * self.outcomes.len()];
-        let summary = run(&self.file(), &mut trace).expect("a story has room");
+        let summary = run_on::<Q>(&self.file(), &mut trace).expect("a story has room");
         (summary, trace)
     }
 
@@ -178,7 +224,7 @@ impl Stage {
         assert_eq!(trace, told);
         let most = self.hidden.iter().copied().max();
         assert_eq!(summary.hidden, most.unwrap_or(0));
-        judge(&self.file()).expect("a story is a schedule")
+        judge_on::<Q>(&self.file()).expect("a story is a schedule")
     }
 
     fn ends_well(self) {

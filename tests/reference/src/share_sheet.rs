@@ -4,6 +4,7 @@
 use std::collections::BTreeSet;
 
 use crate::bench::Bench;
+use crate::calls::Locking;
 use crate::entry::Entry;
 use crate::format::decode;
 use crate::outcome::Outcome;
@@ -83,7 +84,7 @@ fn check_blocks(entries: &[Entry<u32>], count: u8) -> Result<(), Refusal> {
 /// stored, and gives it once; anything else would be a fault of the bench.
 fn shares(sizes: &Sizes, entries: &[Entry<u32>], blocks: usize) -> Vec<Share> {
     let mut shares = vec![NOT_GIVEN; blocks];
-    let mut bench = Bench::new(sizes);
+    let mut bench = Bench::<Locking, u32>::new(sizes);
     for (place, &entry) in (0..).zip(entries) {
         if let Outcome::Task(block) = bench.obey(entry) {
             let share = &mut shares[block as usize - 1];

@@ -2,8 +2,8 @@
 
 mod common;
 
-use common::{file, SIZES};
-use reference::{alike, lines, Sizes};
+use common::{file, Dice, SIZES};
+use reference::{alike, lines, lines_cas, run, run_cas, Sizes};
 
 #[test]
 fn the_example_prints_its_lines() {
@@ -91,6 +91,131 @@ fn an_empty_schedule_prints_two_lines() {
         lines(&file(SIZES, &[])),
         "4 1 0 1 1 0 enough\ngiven 0 aborts 0 waits 0 hidden 0\n"
     );
+}
+
+/// The program of the queue with compare-and-swap says nothing of hidden stores.
+#[test]
+fn with_swaps_the_example_prints_its_lines_as_they_stand() {
+    let entries = [(2, 7), (4, 0), (4, 0), (4, 0), (0, 0), (4, 0)];
+    let expected = "\
+4 1 0 1 1 0 enough
+0 0 0
+1 0 0
+2 0 0
+3 7 0
+4 0 0
+5 16 0
+given 0 aborts 0 waits 1
+";
+    assert_eq!(lines_cas(&file(SIZES, &entries)), expected);
+    assert_eq!(
+        lines_cas(&file(SIZES, &[])),
+        "4 1 0 1 1 0 enough\ngiven 0 aborts 0 waits 0\n"
+    );
+}
+
+/// Two tasks, one stolen, the other not; it is taken by a swap, which the
+/// queue with a lock knows nothing of.
+#[test]
+fn with_swaps_a_story_prints_its_lines() {
+    let put = |task| vec![(2, task), (4, 0), (4, 0), (4, 0), (0, 0), (0, 0)];
+    let steal = |steps| [vec![(5, 0)], vec![(6, 0); steps]].concat();
+    let take = vec![
+        (3, 0),
+        (4, 0),
+        (4, 0),
+        (4, 0),
+        (0, 0),
+        (0, 0),
+        (4, 0),
+        (4, 0),
+    ];
+    let sizes = Sizes {
+        slots: 2,
+        buffer: 3,
+        spacing: 2,
+        ..SIZES
+    };
+    let entries = [put(8), put(9), steal(4), steal(2), take, steal(2)].concat();
+    let expected = "\
+2 3 2 1 1 0 enough
+0 0 0
+1 0 0
+2 0 0
+3 16 0
+4 0 0
+5 0 0
+6 0 0
+7 0 0
+8 0 0
+9 16 0
+10 0 0
+11 0 0
+12 0 0
+13 0 0
+14 0 0
+15 0 0
+16 17 8
+17 0 0
+18 0 0
+19 19 0
+20 0 0
+21 0 0
+22 0 0
+23 0 0
+24 0 0
+25 0 0
+26 0 0
+27 17 9
+28 0 0
+29 0 0
+30 18 0
+given 2 aborts 1 waits 0
+";
+    assert_eq!(lines_cas(&file(sizes, &entries)), expected);
+}
+
+/// Whichever queue it is, the lines are the trace in words.
+#[test]
+fn the_lines_say_what_the_trace_says() {
+    let mut dice = Dice::new(41);
+    for _ in 0..300 {
+        let sizes = Sizes {
+            margin: dice.below(65),
+            ..dice.sizes()
+        };
+        let file = file(sizes, &dice.entries(&sizes, 300));
+        let mut trace = vec![0; 4 + 5 * 300];
+        let hidden = run(&file, &mut trace).unwrap().hidden;
+        let end = format!(" hidden {hidden}");
+        assert_eq!(entries_and_totals(&lines(&file)), in_words(&trace, &end));
+        run_cas(&file, &mut trace).unwrap();
+        assert_eq!(entries_and_totals(&lines_cas(&file)), in_words(&trace, ""));
+    }
+}
+
+/// All lines but the first.
+fn entries_and_totals(lines: &str) -> Vec<String> {
+    lines.lines().skip(1).map(str::to_owned).collect()
+}
+
+/// A line for each entry of a trace, and one with the totals and `end`.
+fn in_words(trace: &[u8], end: &str) -> Vec<String> {
+    let (numbers, values) = trace[4..].split_at((trace.len() - 4) / 5);
+    let values = values.chunks(4).map(|it| it.try_into().unwrap());
+    let values = values.map(u32::from_le_bytes);
+    let entries = numbers.iter().zip(values).enumerate();
+    let mut words: Vec<String> = entries
+        .map(|(place, (number, value))| format!("{place} {number} {value}"))
+        .collect();
+    let total = |wanted| numbers.iter().filter(|&&number| number == wanted).count();
+    words.push(format!(
+        "given {} aborts {} waits {}{end}",
+        total(17),
+        total(19),
+        total(7)
+    ));
+    words
 }
 
 const TWO_THIEVES: Sizes = Sizes {

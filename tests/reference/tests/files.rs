@@ -4,9 +4,10 @@
 mod common;
 
 use common::{file, refusal, Dice, SHORT, SIZES};
-use reference::plain_queue::judge;
+use reference::plain_queue::{judge, judge_cas};
 use reference::{
-    alike, entry_at, lines, parts, read, run, share_sheet, write, Refusal, Sizes, Summary, Totals,
+    alike, entry_at, lines, lines_cas, parts, read, run, run_cas, share_sheet, write, Refusal,
+    Sizes, Summary, Totals,
 };
 
 const ROOM: Refusal = refusal(8, 0);
@@ -15,15 +16,19 @@ const ROOM: Refusal = refusal(8, 0);
 fn assert_refused(file: &[u8], expected: Refusal) {
     let mut trace = [0xee; 64];
     assert_eq!(read(file), Err(expected));
-    assert_eq!(run(file, &mut trace), Err(expected));
-    assert_eq!(run(file, &mut []), Err(expected), "ROOM comes last");
-    assert_eq!(trace, [0xee; 64]);
+    for run in [run, run_cas] {
+        assert_eq!(run(file, &mut trace), Err(expected));
+        assert_eq!(run(file, &mut []), Err(expected), "ROOM comes last");
+        assert_eq!(trace, [0xee; 64]);
+    }
     assert_eq!(share_sheet(file, 1, &mut trace), Err(expected));
     assert_eq!(trace, [0xee; 64]);
     assert_eq!(judge(file), Err(expected));
+    assert_eq!(judge_cas(file), Err(expected));
     assert_eq!(parts(file), (&[][..], &[][..]));
     let line = format!("refused {} place {}\n", expected.number, expected.place);
     assert_eq!(lines(file), line);
+    assert_eq!(lines_cas(file), line);
 
     let good = common::file(SIZES, &[]);
     assert_eq!(alike(file, &good), Err(expected));
@@ -54,7 +59,6 @@ fn the_smallest_file_has_no_entries() {
         ),
         (SIZES, 0, 0)
     );
-    let mut trace = [0xee; 6];
     let nothing = Summary {
         totals: Totals {
             given: 0,
@@ -63,9 +67,12 @@ fn the_smallest_file_has_no_entries() {
         },
         hidden: 0,
     };
-    assert_eq!(run(&file, &mut trace), Ok(nothing));
-    assert_eq!(trace, [0, 0, 0, 0, 0xee, 0xee]);
-    assert_eq!(run(&file, &mut [0; 3]), Err(ROOM));
+    for run in [run, run_cas] {
+        let mut trace = [0xee; 6];
+        assert_eq!(run(&file, &mut trace), Ok(nothing));
+        assert_eq!(trace, [0, 0, 0, 0, 0xee, 0xee]);
+        assert_eq!(run(&file, &mut [0; 3]), Err(ROOM));
+    }
 }
 
 #[test]
@@ -161,14 +168,16 @@ fn operands_belong_to_their_kind() {
 #[test]
 fn a_trace_takes_what_it_needs_and_no_more() {
     let file = file(SIZES, &[(2, 0x0102_0304), (4, 0), (6, 0)]);
-    let mut small = [0xee; 18];
-    assert_eq!(run(&file, &mut small), Err(ROOM));
-    assert_eq!(small, [0xee; 18]);
-    let mut trace = [0xee; 21];
-    assert!(run(&file, &mut trace).is_ok());
-    assert_eq!(trace[..7], [3, 0, 0, 0, 0, 0, 5]);
-    assert_eq!(trace[7..19], [0; 12]);
-    assert_eq!(trace[19..], [0xee; 2]);
+    for run in [run, run_cas] {
+        let mut small = [0xee; 18];
+        assert_eq!(run(&file, &mut small), Err(ROOM));
+        assert_eq!(small, [0xee; 18]);
+        let mut trace = [0xee; 21];
+        assert!(run(&file, &mut trace).is_ok());
+        assert_eq!(trace[..7], [3, 0, 0, 0, 0, 0, 5]);
+        assert_eq!(trace[7..19], [0; 12]);
+        assert_eq!(trace[19..], [0xee; 2]);
+    }
 }
 
 #[test]
@@ -184,6 +193,38 @@ fn a_task_number_comes_out_with_its_least_byte_first() {
         given: 1,
         aborts: 0,
         waits: 0,
+    };
+    assert_eq!(summary, Summary { totals, hidden: 1 });
+}
+
+/// The same entries and four more: with compare-and-swap a take of the last
+/// task stores the tail twice, and its swap needs both stores drained.
+#[test]
+fn a_task_won_by_a_swap_comes_out_likewise() {
+    let give = [(2, 0x0102_0304), (4, 0), (4, 0), (0, 0), (4, 0), (0, 0)];
+    let take = [
+        (3, 0),
+        (4, 0),
+        (4, 0),
+        (4, 0),
+        (0, 0),
+        (4, 0),
+        (4, 0),
+        (0, 0),
+        (4, 0),
+        (4, 0),
+    ];
+    let file = file(SIZES, &[&give[..], &take].concat());
+    let mut trace = [0xee; 84];
+    let summary = run_cas(&file, &mut trace).unwrap();
+    assert_eq!(trace[4..10], [0, 0, 0, 0, 16, 0]);
+    assert_eq!(trace[10..20], [0, 0, 0, 7, 0, 0, 7, 0, 0, 17]);
+    assert_eq!(trace[20..80], [0; 60]);
+    assert_eq!(trace[80..], [4, 3, 2, 1]);
+    let totals = Totals {
+        given: 1,
+        aborts: 0,
+        waits: 2,
     };
     assert_eq!(summary, Summary { totals, hidden: 1 });
 }

@@ -2,10 +2,13 @@
 //! the task they have in hand.
 
 use super::{task_number, Cells};
-use crate::bench::WorkerCall;
-use crate::calls::{Put, Steal, Take};
+use crate::bench;
+use crate::calls::locking::{Steal, Take};
+use crate::calls::Put;
 
-pub(super) fn worker_call([step, t, task]: Cells) -> Option<WorkerCall<u32>> {
+pub(super) type WorkerCall = bench::WorkerCall<Take, u32>;
+
+pub(super) fn worker_call([step, t, task]: Cells) -> Option<WorkerCall> {
     let take = match step {
         0 => return None,
         1..=3 => return Some(WorkerCall::Put(put(step, task))),
@@ -36,7 +39,7 @@ fn put(step: i64, task: i64) -> Put<u32> {
     }
 }
 
-pub(super) fn worker_cells(call: Option<WorkerCall<u32>>) -> Cells {
+pub(super) fn worker_cells(call: Option<WorkerCall>) -> Cells {
     match call {
         None => [0, 0, 0],
         Some(WorkerCall::Put(Put::LoadHead { task })) => [1, 0, i64::from(task)],

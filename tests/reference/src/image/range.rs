@@ -2,13 +2,12 @@
 
 use std::ops::RangeInclusive;
 
-use super::calls::{steal, worker_call};
+use super::calls::{steal, worker_call, WorkerCall};
 use super::{
     Cells, Image, CLIENT, HEAD, MOST_THIEVES, PENDING, SLOT_STORE, SPACING_COUNT, STORES, TAIL,
     TAIL_STORE, THIEVES, WORKER,
 };
-use crate::bench::WorkerCall;
-use crate::calls::{Steal, Take};
+use crate::calls::locking::{Steal, Take};
 use crate::entry::Entry;
 use crate::sizes::Sizes;
 
@@ -76,7 +75,7 @@ fn store_is_in_range([kind, index, _]: Cells) -> bool {
 }
 
 /// A put asks for the tail at each step and has no index in hand.
-fn worker_is_in_range(call: WorkerCall<u32>) -> bool {
+fn worker_is_in_range(call: WorkerCall) -> bool {
     match call {
         WorkerCall::Put(_) => true,
         WorkerCall::Take(take) => take_is_in_range(take),

@@ -2,7 +2,7 @@
 
 use super::{two_tasks_taken_late, Stage, ROOMY};
 use crate::common::Dice;
-use crate::outcome::Outcome::{self, Abort, Early, Empty, Moved, Place, Stored, Task, Wait};
+use crate::outcome::Outcome::{Abort, Early, Empty, Moved, Place, Stored, Task, Wait};
 use crate::sizes::{needed_margin, Sizes};
 
 /// Room for a few calls without a drain.
@@ -13,28 +13,11 @@ const LATE: Sizes = Sizes {
     ..ROOMY
 };
 
-/// A stage with tasks 1 to `tasks`, all of them in memory.
 fn holding(sizes: Sizes, tasks: u32) -> Stage {
-    let mut stage = Stage::new(sizes);
-    for task in 1..=tasks {
-        assert_eq!(stage.put_with_drains(task), Stored);
-    }
-    assert_eq!(stage.hidden(), 0);
-    stage
+    Stage::new(sizes).holding(tasks)
 }
 
 impl Stage {
-    /// A put with a drain wherever it has to wait for one, and after it.
-    fn put_with_drains(&mut self, task: u32) -> Outcome<u32> {
-        let mut outcome = self.put(task);
-        while outcome == Wait {
-            self.drain_all();
-            outcome = self.worker_goes_on();
-        }
-        self.drain_all();
-        outcome
-    }
-
     /// The largest number after any entry, as the run of the file has it.
     fn most_hidden(&self) -> u32 {
         self.told_again().0.hidden
@@ -236,19 +219,12 @@ fn a_run_keeps_the_largest_number() {
     stage.ends_well();
 }
 
-/// As many tasks as the needed margin, taken with no more client stores in
-/// between than they need.
+/// As many tasks as the needed margin, all of them taken.
 fn takes_close_together(sizes: Sizes) -> Stage {
     let tasks = needed_margin(sizes.buffer, sizes.spacing);
     let slots = tasks + 1;
     let mut stage = holding(Sizes { slots, ..sizes }, tasks);
-    assert_eq!(stage.take(), Task(tasks));
-    for task in (1..tasks).rev() {
-        for _ in 0..sizes.spacing {
-            assert_eq!(stage.client_store(), Moved);
-        }
-        assert_eq!(stage.take(), Task(task));
-    }
+    stage.take_close_together(tasks, 1);
     stage
 }
 
