@@ -3,6 +3,7 @@
 use mathlib.Core.Path.{_≡_, refl, ap, sym, _∙_}
 use mathlib.Core.Bool.{true, false}
 use mathlib.Core.List.{List, [], map}
+use Prim.Native.Nat.{ℕ}
 use native.Mathlib.Nat.{le-refl}
 use lib.ListN.{length}
 use Rattle.terms.specs.Lists.{all}
@@ -15,7 +16,7 @@ use Rattle.claim.specs.Watch.{Watch, callAt, toldAt, watchAfter, watchFr
 use Rattle.claim.specs.Linearizable.{Linearizable, noCallRuns}
 use Rattle.claim.proofs.Follows.{Follows, Turned, all-follow, turned}
 use Rattle.claim.proofs.Lawful.{Lawful}
-use Rattle.claim.proofs.Theorem.{linearizes}
+use Rattle.claim.proofs.Theorem.{Shows, linearizes}
 use Rattle.claim.proofs.Turn.{Turn, refuses, toldIn}
 
 -- What a party's call on a machine was begun as, and what holds of a machine and the plain queue beside it.
@@ -74,17 +75,17 @@ module _ {M E : Type 0} (b : Implementation M E) (begun : M → Party → Begun)
       limits = ap (λ s. all (withinLimits (b .limits s) (w .queue)) (toldAt b w e)) (sym (v .sizes-are)) ∙ by-turn .limits
 
     -- .. and where no call runs the tasks stand in the slots
-    pub linearizes-by-turns :
-        Turns → (s : Sizes)
-        → ((w : Watch M) → Invariant s w → noCallRuns s w ≡ true → map (λ t. t .number) (w .queue .tasks) ≡ b .standing (w .machine))
-        → Invariant s (watchFresh b s) → (es : List E) → Linearizable b s es
-    linearizes-by-turns turns s standing at-first es =
-        linearizes lawful {s = s} {most = length es} {Inv = λ n w. Invariant s w}
-        (record {
-          keeps = λ n w short v e. keeps turns v e;
-          limits = λ n w v e. limits turns v e;
-          answers = λ n w v e. by-turn turns v e .answers;
-          owed = λ n w v p. v .calls p .answers;
-          standing = λ n w v quiet. standing w v quiet;
-        })
-        es (le-refl (length es)) at-first
+    module _ (turns : Turns) (s : Sizes) (standing : (w : Watch M) → Invariant s w → noCallRuns s w ≡ true → map (λ t. t .number) (w .queue .tasks) ≡ b .standing (w .machine)) where
+      -- so the invariant shows the claim, in runs of any length
+      pub shows-by-turns : {most : ℕ} → Shows b s most (λ n w. Invariant s w)
+      shows-by-turns =
+          record {
+            keeps = λ n w short v e. keeps turns v e;
+            limits = λ n w v e. limits turns v e;
+            answers = λ n w v e. by-turn turns v e .answers;
+            owed = λ n w v p. v .calls p .answers;
+            standing = λ n w v quiet. standing w v quiet;
+          }
+
+      pub linearizes-by-turns : Invariant s (watchFresh b s) → (es : List E) → Linearizable b s es
+      linearizes-by-turns at-first es = linearizes lawful shows-by-turns es (le-refl (length es)) at-first

@@ -1,3 +1,4 @@
+pub mod Laws
 pub mod Renumbering
 pub mod ExactlyOnce
 pub mod Accounts

@@ -1,27 +1,27 @@
--- No step of the machine depends on a task's number: a machine whose tasks are numbered anew does what the machine does, numbered anew.
+-- No step of FF-THE depends on a task's number: a machine whose tasks are numbered anew does what the machine does, numbered anew.
 use mathlib.Core.Path.{_≡_, refl, ap, sym, _∙_}
 use mathlib.Core.Bool.{cond, not, _&&_}
-use mathlib.Core.List.{List, [], _∷_, map, map-append}
+use mathlib.Core.List.{List, map}
 use Prim.Native.Nat.{ℕ}
-use lib.Dec.{eqb}
-use lib.ListN.{List·getD-map, getD, replicate}
+use lib.ListN.{List·getD-map}
 use Rattle.terms.proofs.Laws.Tests.{cond-map}
-use Rattle.terms.proofs.Laws.Lists.{all-map, foldl-map, map-drop, map-replicate, map-set, map-take}
+use Rattle.terms.proofs.Laws.Lists.{all-map, map-set}
 use Rattle.stores.specs.Index.{slotOf}
 use Rattle.stores.specs.Lock.{isNobody}
-use Rattle.stores.specs.Spacing.{countedIn, tooEarly}
-use Rattle.stores.specs.StoreBuffer.{clientStore, dropOldest, oldest, pending, pushedIn, slotAfter, slotsAfter, storeInRange, tailAfter}
+use Rattle.stores.specs.Spacing.{tooEarly}
+use Rattle.stores.specs.StoreBuffer.{oldest}
 use Rattle.machine.specs.Worker.{atEnd, atOrAboveHead, headIsPast, isFull, loads, workerInRange, workerMove, workerRuns}
 use Rattle.machine.specs.Thief.{idleThief, keepsMargin, loads as thiefLoads, thiefInRange, thiefMove, thiefRuns}
-use Rattle.machine.specs.Machine.{done, fresh, hasRoom, memoryLoad, memoryLoads, nothingPending, thiefCall, workerLoad, workerLoads, workerTail}
+use Rattle.machine.specs.Machine.{done, fresh, hasRoom, memoryLoads, nothingPending, thiefCall, workerLoads}
 use Rattle.machine.specs.Update.{withLock, withMemory, withStore, withThief, withWorker}
 use Rattle.machine.specs.InRange.{inRange}
-use Rattle.machine.specs.Obey.{obey, obeyInRange, outcomesOf, thiefIsThere}
+use Rattle.machine.specs.Obey.{obey, obeyInRange, thiefIsThere}
 use Rattle.machine.specs.Linearizable.{ffThe}
 use Rattle.machine.specs.Perform.{thiefView, workerView, performWorker, stepOfWorker, performThief, stepOfThief}
 use Rattle.machine.specs.Entries.{drain, drained, unlessWorkerRuns, workerGoesOn}
-use Rattle.properties.specs.Types.{Entry, Drain, ClientStore, BeginPut, BeginTake, WorkerStep, BeginSteal, ThiefStep, Done, Index, Load, NoSlot, SlotOf, Machine, Outcome, Moved, Wait, Sizes, Store, StoreBuffer, StoreKind, Client, Tail, Slot, Push, Nothing, One, TheClient, Spacing, Thief, ThiefCall, StealLock, StealLoadHead, StealRaiseHead, StealLoadTail, StealLoadSlot, StealUnlockTask, StealRestoreHead, StealUnlockAbort, ThiefView, ThiefMove, WorkerCall, PutLoadHead, PutStoreSlot, PutStoreTail, TakeStoreTail, TakeLoadHead, TakeLoadSlot, TakeLock, TakeReloadHead, TakeRestoreTail, TakeUnlockEmpty, TakeUnlockTask, TakeLoadLastSlot, WorkerView, WorkerMove}
+use Rattle.properties.specs.Types.{Entry, Drain, ClientStore, BeginPut, BeginTake, WorkerStep, BeginSteal, ThiefStep, Done, Load, NoSlot, SlotOf, Machine, Outcome, Moved, Wait, Client, Push, One, TheClient, Thief, ThiefCall, StealLock, StealLoadHead, StealRaiseHead, StealLoadTail, StealLoadSlot, StealUnlockTask, StealRestoreHead, StealUnlockAbort, ThiefView, ThiefMove, WorkerCall, PutLoadHead, PutStoreSlot, PutStoreTail, TakeStoreTail, TakeLoadHead, TakeLoadSlot, TakeLock, TakeReloadHead, TakeRestoreTail, TakeUnlockEmpty, TakeUnlockTask, TakeLoadLastSlot, WorkerView, WorkerMove}
 use Rattle.properties.specs.Renumbering.{BlindToNumbers, renumberEntry, renumberOutcome}
+use Rattle.properties.proofs.Laws.Renumbering.{blind-by-renumbering, count-renumber, drop-oldest-renumber, entry-blind, oldest-renumber, push-renumber, ranged-renumber, renumberBuffer, renumberPush, slots-renumber, tail-after-renumber, tail-renumber, thief-load-renumber, worker-load-renumber, zeros-renumber}
 
 -- the thieves replaced
 abbrev withThieves : List Thief → Machine → Machine
@@ -29,17 +29,6 @@ withThieves l m = record { sizes = m .sizes; slots = m .slots; head = m .head; t
 
 module _ (f : ℕ → ℕ) where
   -- ── A machine numbered anew by f ────────────────────────────────────────────────────────────────────────────────────────────
-
-  abbrev renumberKind : StoreKind → StoreKind
-  renumberKind Client = Client
-  renumberKind (Tail t) = Tail t
-  renumberKind (Slot x i) = Slot (f x) i
-
-  abbrev renumberStore : Store → Store
-  renumberStore s = record { kind = renumberKind (s .kind) }
-
-  abbrev renumberBuffer : StoreBuffer → StoreBuffer
-  renumberBuffer b = record { stores = map renumberStore (b .stores); count = b .count }
 
   abbrev renumberWorker : WorkerCall → WorkerCall
   renumberWorker WorkerCall.Idle = WorkerCall.Idle
@@ -72,17 +61,13 @@ module _ (f : ℕ → ℕ) where
 
   abbrev renumber : Machine → Machine
   renumber m =
-      withMemory (map f (m .slots)) (m .tail) (renumberBuffer (m .buffer))
+      withMemory (map f (m .slots)) (m .tail) (renumberBuffer f (m .buffer))
       (withWorker (renumberWorker (m .worker .call)) (withThieves (map renumberThief (m .thieves)) m))
 
   abbrev renumberDone : Done → Done
   renumberDone d = done (renumberOutcome f (d .outcome)) (renumber (d .machine))
 
   -- .. what a party sees, and what its step does
-
-  abbrev renumberPush : Push → Push
-  renumberPush Nothing = Nothing
-  renumberPush (One w k) = One w (renumberKind k)
 
   abbrev renumberWorkerView : WorkerView → WorkerView
   renumberWorkerView v =
@@ -99,7 +84,7 @@ module _ (f : ℕ → ℕ) where
 
   abbrev renumberWorkerMove : WorkerMove → WorkerMove
   renumberWorkerMove d =
-      record { push = renumberPush (d .push); lock = d .lock; call = renumberWorker (d .call); outcome = renumberOutcome f (d .outcome) }
+      record { push = renumberPush f (d .push); lock = d .lock; call = renumberWorker (d .call); outcome = renumberOutcome f (d .outcome) }
 
   abbrev renumberThiefView : ThiefView → ThiefView
   renumberThiefView v =
@@ -118,13 +103,7 @@ module _ (f : ℕ → ℕ) where
 
   -- ── What looks at no number comes out the same ──────────────────────────────────────────────────────────────────────────────
 
-  -- a function that has the same value wherever a number stands has the same value at a kind of store, at a worker's and at a thief's call
-  kind-blind : {A : Type 0} (g : StoreKind → A) → ((i : Index) (x : ℕ) → g (Slot (f x) i) ≡ g (Slot x i))
-      → (k : StoreKind) → g (renumberKind k) ≡ g k
-  kind-blind g slot Client = refl
-  kind-blind g slot (Tail t) = refl
-  kind-blind g slot (Slot x i) = slot i x
-
+  -- a function that has the same value wherever a number stands has the same value at a worker's and at a thief's call
   worker-blind : {A : Type 0} (g : WorkerCall → A) → ((x : ℕ) → g (PutLoadHead (f x)) ≡ g (PutLoadHead x))
       → ((x : ℕ) → g (PutStoreSlot (f x)) ≡ g (PutStoreSlot x)) → (c : WorkerCall) → g (renumberWorker c) ≡ g c
   worker-blind g load store WorkerCall.Idle = refl
@@ -153,70 +132,30 @@ module _ (f : ℕ → ℕ) where
   thief-blind g task (StealRestoreHead h) = refl
   thief-blind g task StealUnlockAbort = refl
 
-  -- an entry numbered anew names the same thief
-  entry-blind : (s : Sizes) (e : Entry) → thiefIsThere s (renumberEntry f e) ≡ thiefIsThere s e
-  entry-blind s Drain = refl
-  entry-blind s ClientStore = refl
-  entry-blind s (BeginPut x) = refl
-  entry-blind s BeginTake = refl
-  entry-blind s WorkerStep = refl
-  entry-blind s (BeginSteal i) = refl
-  entry-blind s (ThiefStep i) = refl
-
-  pending-renumber : (b : StoreBuffer) → pending (renumberBuffer b) ≡ map renumberStore (pending b)
-  pending-renumber b = map-take renumberStore (b .count) (b .stores)
-
   in-range-renumber : (m : Machine) → inRange (renumber m) ≡ inRange m
   unfolding inRange
   in-range-renumber m =
       rw (
-        pending-renumber (m .buffer),
-        all-map renumberStore (λ s. storeInRange (s .kind)) (λ s. kind-blind storeInRange (λ i x. refl) (s .kind)) (pending (m .buffer)),
+        ranged-renumber f (m .buffer),
         worker-blind workerInRange (λ x. refl) (λ x. refl) (m .worker .call),
         all-map renumberThief (λ t. thiefInRange (t .call)) (λ t. thief-blind thiefInRange (λ x. refl) (t .call)) (m .thieves),
       )
 
-  -- the worker loads the same tail
-  tail-renumber : (m : Machine) → workerTail (renumber m) ≡ workerTail m
-  tail-renumber m =
-      rw (pending-renumber (m .buffer))
-      (foldl-map renumberStore (λ t. t) _ _ (λ t s. kind-blind (tailAfter t) (λ i x. refl) (s .kind)) (m .tail) (pending (m .buffer)))
-
   -- ── What an entry changes ───────────────────────────────────────────────────────────────────────────────────────────────────
 
   -- a store becomes pending, if there is one
-  push-renumber : (p : Push) (b : StoreBuffer) → pushedIn (renumberPush p) (renumberBuffer b) ≡ renumberBuffer (pushedIn p b)
-  push-renumber Nothing b = refl
-  push-renumber (One w k) b = rw (map-set renumberStore (b .stores) (b .count) (record { kind = k }))
+  store-renumber : (p : Push) (m : Machine) → withStore (renumberPush f p) (renumber m) ≡ renumber (withStore p m)
+  store-renumber p m = rw (push-renumber f p (m .buffer), count-renumber f p (m .spacing))
 
-  -- .. and counts by who made it
-  count-renumber : (p : Push) (s : Spacing) → countedIn (renumberPush p) s ≡ countedIn p s
-  count-renumber Nothing s = refl
-  count-renumber (One w k) s = refl
-
-  store-renumber : (p : Push) (m : Machine) → withStore (renumberPush p) (renumber m) ≡ renumber (withStore p m)
-  store-renumber p m = rw (push-renumber p (m .buffer), count-renumber p (m .spacing))
-
-  -- a drain: what the oldest store leaves in the slots, the oldest store, and the others
-  slots-renumber : (n : ℕ) (l : List ℕ) (k : StoreKind) → slotsAfter n (map f l) (renumberKind k) ≡ map f (slotsAfter n l k)
-  slots-renumber n l Client = refl
-  slots-renumber n l (Tail t) = refl
-  slots-renumber n l (Slot x i) = map-set f l (slotOf n i) x
-
-  oldest-renumber : (b : StoreBuffer) → oldest (renumberBuffer b) ≡ renumberStore (oldest b)
-  oldest-renumber b = List·getD-map renumberStore (b .stores) 0 clientStore
-
-  drop-oldest-renumber : (b : StoreBuffer) → dropOldest (renumberBuffer b) ≡ renumberBuffer (dropOldest b)
-  drop-oldest-renumber b = simp (map-append, map-drop, map-take)
-
+  -- a drain
   drained-renumber : (m : Machine) → drained (renumber m) ≡ renumber (drained m)
   drained-renumber m =
       let k = oldest (m .buffer) .kind in
       rw (
-        oldest-renumber (m .buffer),
-        slots-renumber (m .sizes .slots) (m .slots) k,
-        kind-blind (tailAfter (m .tail)) (λ i x. refl) k,
-        drop-oldest-renumber (m .buffer),
+        oldest-renumber f (m .buffer),
+        slots-renumber f (m .sizes .slots) (m .slots) k,
+        tail-after-renumber f (m .tail) k,
+        drop-oldest-renumber f (m .buffer),
       )
 
   drain-renumber : (m : Machine) → drain (renumber m) ≡ renumberDone (drain m)
@@ -234,14 +173,9 @@ module _ (f : ℕ → ℕ) where
       → done (renumberOutcome f o) (withThief i (renumberSteal c) (renumber m)) ≡ renumberDone (done o (withThief i c m))
   thief-renumber o i c m = rw (map-set renumberThief (m .thieves) i (record { call = c }))
 
-  -- a thief's call, and what a pending store makes of the value loaded from a slot
+  -- a thief's call
   thief-call-renumber : (m : Machine) (i : ℕ) → thiefCall (renumber m) i ≡ renumberSteal (thiefCall m i)
   thief-call-renumber m i = ap (λ t. t .call) (List·getD-map renumberThief (m .thieves) i idleThief)
-
-  slot-renumber : (n k v : ℕ) (s : StoreKind) → slotAfter n k (f v) (renumberKind s) ≡ f (slotAfter n k v s)
-  slot-renumber n k v Client = refl
-  slot-renumber n k v (Tail t) = refl
-  slot-renumber n k v (Slot x i) = cond-map f (eqb (slotOf n i) k) refl refl
 
   -- ── Each step, as its party sees the machine ────────────────────────────────────────────────────────────────────────────────
 
@@ -275,32 +209,21 @@ module _ (f : ℕ → ℕ) where
 
   -- ── With 0 for 0: a slot that holds no task holds 0 ─────────────────────────────────────────────────────────────────────────
   module _ (zero-kept : f 0 ≡ 0) where
-    -- what a thief and what the worker load from a slot
-    thief-load-renumber : (m : Machine) (i : Index) → memoryLoad (renumber m) i ≡ f (memoryLoad m i)
-    thief-load-renumber m i =
-        let k = slotOf (m .sizes .slots) i in
-        ap (getD (map f (m .slots)) k) (sym zero-kept) ∙ List·getD-map f (m .slots) k 0
-
-    worker-load-renumber : (m : Machine) (i : Index) → workerLoad (renumber m) i ≡ f (workerLoad m i)
-    worker-load-renumber m i =
-        rw (thief-load-renumber m i, pending-renumber (m .buffer))
-        (foldl-map renumberStore f _ _ (λ v s. slot-renumber _ _ v (s .kind)) (memoryLoad m i) (pending (m .buffer)))
-
-    -- .. if they load from one
+    -- what a thief and what the worker load, from a slot or from none
     thief-loads-renumber : (m : Machine) (l : Load) → memoryLoads (renumber m) l ≡ f (memoryLoads m l)
     thief-loads-renumber m NoSlot = sym zero-kept
-    thief-loads-renumber m (SlotOf i) = thief-load-renumber m i
+    thief-loads-renumber m (SlotOf i) = thief-load-renumber f zero-kept (m .slots) (slotOf (m .sizes .slots) i)
 
     worker-loads-renumber : (m : Machine) (l : Load) → workerLoads (renumber m) l ≡ f (workerLoads m l)
     worker-loads-renumber m NoSlot = sym zero-kept
-    worker-loads-renumber m (SlotOf i) = worker-load-renumber m i
+    worker-loads-renumber m (SlotOf i) = worker-load-renumber f zero-kept (m .sizes .slots) (m .slots) (m .buffer) (slotOf (m .sizes .slots) i)
 
     -- what a party sees, and what its step does to the machine
     worker-step-renumber : (m : Machine) (c : WorkerCall) → stepOfWorker (renumber m) (renumberWorker c) ≡ renumberDone (stepOfWorker m c)
     worker-step-renumber m c =
         let d = workerMove c (workerView m c) in
         let sees : workerView (renumber m) (renumberWorker c) ≡ renumberWorkerView (workerView m c) =
-        rw (worker-blind loads (λ x. refl) (λ x. refl) c, worker-loads-renumber m (loads c), tail-renumber m) in
+        rw (worker-blind loads (λ x. refl) (λ x. refl) c, worker-loads-renumber m (loads c), tail-renumber f (m .tail) (m .buffer)) in
         let does : performWorker (renumber m) (renumberWorkerMove d) ≡ renumberDone (performWorker m d) = ap (λ n. done (renumberOutcome f (d .outcome)) (withWorker (renumberWorker (d .call)) (withLock (d .lock .holder) n))) (store-renumber (d .push) m) in
         ap (λ v. performWorker (renumber m) (workerMove (renumberWorker c) v)) sees ∙ ap (performWorker (renumber m)) (work-renumber c (workerView m c)) ∙ does
 
@@ -314,7 +237,7 @@ module _ (f : ℕ → ℕ) where
         rw (map-set renumberThief (m .thieves) i (record { call = d .call })) in
         ap (λ v. performThief i (renumber m) (thiefMove (renumberSteal c) v)) sees ∙ ap (performThief i (renumber m)) (steal-renumber c (thiefView m i c)) ∙ does
 
-    -- each entry, each list
+    -- each entry
     obey-in-range-renumber : (m : Machine) (e : Entry) → obeyInRange (renumber m) (renumberEntry f e) ≡ renumberDone (obeyInRange m e)
     obey-in-range-renumber m Drain = drain-renumber m
     obey-in-range-renumber m ClientStore = unless-renumber m _ (cond-map renumberDone (hasRoom m) (ap (done Moved) (store-renumber (One TheClient Client) m)) refl)
@@ -329,23 +252,17 @@ module _ (f : ℕ → ℕ) where
     obey-renumber : (m : Machine) (e : Entry) → obey (renumber m) (renumberEntry f e) ≡ renumberDone (obey m e)
     obey-renumber m e =
         let ranged = in-range-renumber m in
-        let there = entry-blind (m .sizes) e in
+        let there = entry-blind f (thiefIsThere (m .sizes)) (λ x. refl) e in
         ap (λ t. cond t (obeyInRange (renumber m) (renumberEntry f e)) (done Wait (renumber m))) (λ i. ranged i && there i)
         ∙ cond-map renumberDone (inRange m && thiefIsThere (m .sizes) e) (obey-in-range-renumber m e) refl
 
-    outcomes-renumber : (m : Machine) (es : List Entry)
-        → outcomesOf (renumber m) (map (renumberEntry f) es) ≡ map (renumberOutcome f) (outcomesOf m es)
-    outcomes-renumber m [] = refl
-    outcomes-renumber m (e ∷ es) =
-        rw (obey-renumber m e) (ap (λ l. renumberOutcome f (obey m e .outcome) ∷ l) (outcomes-renumber (obey m e .machine) es))
-
-    -- the fresh machine holds no number but 0
-    fresh-renumber : (s : Sizes) → renumber (fresh s) ≡ fresh s
-    fresh-renumber s =
-        ap (λ l. withMemory l (fresh s .tail) (fresh s .buffer) (fresh s))
-        (map-replicate f 256 0 ∙ ap (replicate 256) zero-kept)
-
 pub blind-to-numbers : BlindToNumbers ffThe
-blind-to-numbers f zero-kept s es =
-    ap (λ m. outcomesOf m (map (renumberEntry f) es)) (sym (fresh-renumber f zero-kept s))
-    ∙ outcomes-renumber f zero-kept (fresh s) es
+blind-to-numbers =
+    blind-by-renumbering ffThe
+    (λ f zero-kept.
+    record {
+      renumber = renumber f;
+      next-renumber = λ m e. ap (λ d. d .machine) (obey-renumber f zero-kept m e);
+      outcome-renumber = λ m e. ap (λ d. d .outcome) (obey-renumber f zero-kept m e);
+      fresh-renumber = λ s. ap (λ l. withMemory l (fresh s .tail) (fresh s .buffer) (fresh s)) (zeros-renumber f zero-kept 256);
+    })

@@ -22,7 +22,8 @@ use Rattle.machine.specs.Machine.{fresh}
 use Rattle.machine.specs.Obey.{obey, outcomesOf}
 use Rattle.machine.specs.Linearizable.{ffThe}
 use Rattle.properties.specs.ExactlyOnce.{given, held, numberPut, standing, stored, storedPuts}
-use Rattle.properties.proofs.ExactlyOnce.{accounted-by-number, stored-put}
+use Rattle.properties.proofs.ExactlyOnce.{accounted-by-number}
+use Rattle.properties.proofs.Laws.ExactlyOnce.{stored-put}
 use Rattle.schedule.specs.Format.{allBelow}
 use Rattle.schedule.proofs.Laws.Bytes.{each-below}
 use Rattle.schedule.proofs.Laws.Run.{length-outcomesOf}

@@ -1,0 +1,3 @@
+pub mod Renumbering
+pub mod ExactlyOnce
+pub mod Hidden
