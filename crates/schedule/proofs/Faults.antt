@@ -7,7 +7,8 @@ use native.Mathlib.Omega.{arith}
 use lib.Dec.{eqb, ltb}
 use lib.ListN.{getD, length}
 use borrow.Author.Tests.{eq-eqb, eqb-true, le-ltb, ltb-false, ltb-true}
-use Rattle.schedule.specs.Types.{Accepted, Failed, Passed, Reading, Refusal, Running, Short, Sizes}
+use Rattle.claim.specs.Implementation.{Implementation}
+use Rattle.schedule.specs.Types.{Accepted, Entry, Failed, Passed, Reading, Refusal, Running, Short, Sizes}
 use Rattle.schedule.specs.declared.reader.Reading.the-variants as reading
 use Rattle.schedule.specs.Check.{checkRanges}
 use Rattle.schedule.specs.Entries.{checkEntries, checkOf, entryAt}
@@ -17,7 +18,7 @@ use Rattle.terms.specs.Refusal.{Refuses, numberOf, placeOf}
 use Rattle.terms.proofs.Laws.Tests.{decide, either}
 use Rattle.schedule.specs.Format.{entriesIn, kindsIn, operandsIn, sizesIn}
 use Rattle.schedule.specs.Reader as reader
-use Rattle.schedule.specs.Run.{outcomesIn, runningOf, traceIf}
+use Rattle.schedule.specs.Run.{outcomesInBy, runningBy, traceIf}
 use Rattle.schedule.specs.Trace.{traceLength, traceOf}
 use Rattle.schedule.proofs.Laws.Reader.{accepted-readable, refused-reading}
 use Rattle.schedule.proofs.Laws.Check.{failIf-failed, not-both}
@@ -134,21 +135,21 @@ still-fault file noRoom number place e = go (eqb number 1) (eqb number 2) (eqb n
     go false false true a b c p = absurd (false≢true (sym (and-false (eqb place 0)) ∙ p))
     go false false false a b c p = p
 
-pub runner-refuses-faults : RunnerRefusesFaults
-runner-refuses-faults file room = go (reader.readFile file) refl (reader-refuses-faults file)
+pub runner-refuses-faults : {M : Type 0} (b : Implementation M Entry) → RunnerRefusesFaults b
+runner-refuses-faults b file room = go (reader.readFile file) refl (reader-refuses-faults file)
   where
     small : ℕ → Bool
     small n = ltb room (traceLength n)
 
-    go : (answer : Reading) → reader.readFile file ≡ answer → Refuses (fileHas file) (refusalInReading (reader.readFile file)) → Refuses (runHas file room) (refusalInRunning (runningOf file room answer))
+    go : (answer : Reading) → reader.readFile file ≡ answer → Refuses (fileHas file) (refusalInReading (reader.readFile file)) → Refuses (runHas file room) (refusalInRunning (runningBy b file room answer))
     go (reading.Refused r) e faults = still-fault file (small (entriesIn file)) (numberOf r) (placeOf r) (subst (λ a. Refuses (fileHas file) (refusalInReading a)) e faults)
     go (Accepted s n) e faults =
         decide (λ (a : Running). Refuses (runHas file room) (refusalInRunning a)) (small n)
         (λ full. ap small same ∙ full)
-        (λ fits number place. ap (λ b. faultsOf file b number place) (ap small same ∙ fits) ∙ subst (λ a. Refuses (fileHas file) (refusalInReading a)) e faults number place)
+        (λ fits number place. ap (λ noRoom. faultsOf file noRoom number place) (ap small same ∙ fits) ∙ subst (λ a. Refuses (fileHas file) (refusalInReading a)) e faults number place)
       where
         same : entriesIn file ≡ n
         same = sym (accepted-readable file s n e .1 .0)
 
-pub refused-run-untouched : RefusedRunUntouched
-refused-run-untouched file trace r e = ap (traceIf (traceOf (outcomesIn file)) trace) e
+pub refused-run-untouched : {M : Type 0} (b : Implementation M Entry) → RefusedRunUntouched b
+refused-run-untouched b file trace r e = ap (traceIf (traceOf (outcomesInBy b file)) trace) e

@@ -4,5 +4,6 @@ pub mod Check
 pub mod Entries
 pub mod Reader
 pub mod Trace
+pub mod Proved
 pub mod Run
 pub mod Obeyed

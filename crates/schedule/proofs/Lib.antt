@@ -6,6 +6,7 @@ pub mod Faults
 pub mod Parts
 pub mod Totals
 pub mod Schedules
+pub mod FfThe
 pub mod Demand3
 pub mod Hidden
 pub mod Promises

@@ -8,11 +8,13 @@ use lib.ListN.{drop, getD, length, take, take-append-drop}
 use lib.Seq.{drop-drop}
 use borrow.Author.Tests.{le-leb}
 use Rattle.terms.proofs.Laws.Tests.{by-test}
+use Rattle.claim.specs.Implementation.{Implementation}
+use Rattle.schedule.specs.Types.{Entry}
 use Rattle.schedule.specs.Entries.{entryAt}
 use Rattle.schedule.specs.Format.{entriesIn, kindsIn, operandsIn, sizesIn, wordsIn}
 use Rattle.schedule.specs.Parts.{EntriesAsRead, EntryOfFile, PartsOfAccepted, ReadByParts, RunByParts}
 use Rattle.schedule.specs.Reader.{holdsKinds, kindPart, kindStart, operandPart, operandStart, readFile, readingOf}
-use Rattle.schedule.specs.Run.{outcomesFrom, outcomesIn, summaryFrom, traceIf, tracePut}
+use Rattle.schedule.specs.Run.{outcomesFromBy, outcomesInBy, summaryFromBy, traceIf, tracePut}
 use Rattle.schedule.specs.Trace.{traceFits, traceOf}
 use Rattle.schedule.proofs.Laws.Reader.{Readable, accepted-readable, kinds-cut, kinds-taken, length-operands-cut, operands-cut, operands-drop, parts-checked, readable-accepted, sizes-decide}
 use Rattle.schedule.proofs.Laws.Run.{outcomes-counted, parts-obeyed, run-with-room, trace-fits, trace-put}
@@ -82,15 +84,15 @@ read-by-parts file right =
     let decided = sizes-decide file (sizesIn file) (entriesIn file) (ap (readingOf file) right) .1 .1 in
     decided .1 ∙ ap (readingOf file) (sym (parts-checked file (sizesIn file) (entriesIn file) (decided .0 .long)))
 
-pub run-by-parts : RunByParts
-run-by-parts file s n accepted =
-    let parts = parts-obeyed file s n accepted in
-    let same = sym ((λ i. outcomesFrom s (kindPart file (accepted i)) (wordsIn (operandPart file (accepted i)))) ∙ parts .outcomes) in (
+pub run-by-parts : {M : Type 0} (b : Implementation M Entry) → RunByParts b
+run-by-parts b file s n accepted =
+    let parts = parts-obeyed b file s n accepted in
+    let same = sym ((λ i. outcomesFromBy b s (kindPart file (accepted i)) (wordsIn (operandPart file (accepted i)))) ∙ parts .outcomes) in (
       same,
-      sym ((λ i. summaryFrom s (kindPart file (accepted i)) (wordsIn (operandPart file (accepted i)))) ∙ parts .summary),
+      sym ((λ i. summaryFromBy b s (kindPart file (accepted i)) (wordsIn (operandPart file (accepted i)))) ∙ parts .summary),
       λ trace enough.
-          let fits = ap (λ k. traceFits k (length trace)) (outcomes-counted file s n accepted) ∙ trace-fits n (length trace) (parts .few) enough in
-          ap (traceIf (traceOf (outcomesIn file)) trace) (run-with-room file (length trace) s n accepted enough)
-          ∙ sym (trace-put (outcomesIn file) trace fits)
+          let fits = ap (λ k. traceFits k (length trace)) (outcomes-counted b file s n accepted) ∙ trace-fits n (length trace) (parts .few) enough in
+          ap (traceIf (traceOf (outcomesInBy b file)) trace) (run-with-room b file (length trace) s n accepted enough)
+          ∙ sym (trace-put (outcomesInBy b file) trace fits)
           ∙ ap (λ os. tracePut os trace) same,
     )

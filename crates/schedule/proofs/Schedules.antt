@@ -2,8 +2,7 @@
 use mathlib.Core.Path.{_≡_, refl, ap, sym, _∙_}
 use mathlib.Core.Bool.{Bool, true, false, _&&_}
 use mathlib.Core.List.{List, [], _∷_, _++_, map, map-append}
-use Prim.Native.Nat.{ℕ, zero, suc, _≤_, _<_, max}
-use native.Mathlib.Nat.{le-of-suc-le-suc, not-suc-le-zero}
+use Prim.Native.Nat.{ℕ, zero, suc, _≤_, max}
 use native.Mathlib.Numerals.{add-one}
 use native.Mathlib.Omega.{arith}
 use lib.Dec.{ltb}
@@ -13,11 +12,14 @@ use borrow.Author.Tests.{le-ltb}
 use Rattle.terms.specs.Kinds.{kindOf, operandOf}
 use Rattle.terms.specs.Lists.{largest}
 use Rattle.terms.specs.Tally.{counted, noneCounted}
+use Rattle.terms.proofs.Laws.Runs.{each-there}
+use Rattle.claim.specs.Implementation.{Implementation}
+use Rattle.claim.specs.Run.{hiddenOf, machineAfter, outcomesOf}
 use Rattle.machine.specs.InRange.{inRange}
 use Rattle.machine.specs.Machine.{fresh}
 use Rattle.machine.proofs.Laws.Obey.{out-of-range-waits}
-use Rattle.machine.proofs.Laws.Hidden.{hidden-out}
-use Rattle.machine.specs.Obey.{hiddenOf, machineAfter, obey, outcomesOf, thiefIsThere}
+use Rattle.machine.specs.Linearizable.{ffThe}
+use Rattle.machine.specs.Obey.{obey}
 use Rattle.machine.proofs.Laws.InRange.{bounds}
 use Rattle.terms.specs.Sizes.{sizesInRange}
 use Rattle.terms.specs.declared.outcome.Outcome.the-variants.{Moved, Wait}
@@ -28,20 +30,21 @@ use Rattle.schedule.specs.Run.{AnyArraysObeyed, NoEntryWaits, RunBySteps
 use Rattle.schedule.specs.Totals.{countedFrom}
 use Rattle.schedule.proofs.Laws.Entries.{entry-as-read, entryAt-both}
 use Rattle.schedule.proofs.Laws.Format.{length-kindsIn, length-operandsIn}
+use Rattle.schedule.proofs.Laws.Proved.{Proved}
 use Rattle.schedule.proofs.Laws.Reader.{accepted-readable}
 use Rattle.schedule.proofs.Laws.Run.{all-allowed, entriesUpTo, entriesUpTo-more, entry-there, length-entriesUpTo, length-outcomesFrom}
 
 -- ── One step after the other ────────────────────────────────────────────────────────────────────────────────────────────────
 
-steps-outcomes : (m : Machine) (t : Tally) (es : List Entry) → outcomesOfSteps m t es ≡ outcomesOf m es
+steps-outcomes : (m : Machine) (t : Tally) (es : List Entry) → outcomesOfSteps m t es ≡ outcomesOf ffThe m es
 steps-outcomes m t [] = refl
 steps-outcomes m t (e ∷ es) = ap (λ os. obey m e .outcome ∷ os) (steps-outcomes (obey m e .machine) (counted t (obey m e .outcome)) es)
 
-steps-hidden : (m : Machine) (t : Tally) (es : List Entry) → hiddenOfSteps m t es ≡ hiddenOf m es
+steps-hidden : (m : Machine) (t : Tally) (es : List Entry) → hiddenOfSteps m t es ≡ hiddenOf ffThe m es
 steps-hidden m t [] = refl
 steps-hidden m t (e ∷ es) = ap (λ ns. obey m e .hidden ∷ ns) (steps-hidden (obey m e .machine) (counted t (obey m e .outcome)) es)
 
-steps-after : (m : Machine) (t : Tally) (es : List Entry) → afterSteps m t es ≡ (machineAfter m es, countedFrom t (outcomesOf m es))
+steps-after : (m : Machine) (t : Tally) (es : List Entry) → afterSteps m t es ≡ (machineAfter ffThe m es, countedFrom t (outcomesOf ffThe m es))
 steps-after m t [] = refl
 steps-after m t (e ∷ es) = steps-after (obey m e .machine) (counted t (obey m e .outcome)) es
 
@@ -58,44 +61,32 @@ no-entry-waits m r = out-of-range-waits m (ThiefStep 4294967295) (go (inRange m)
     go true p = le-ltb 4294967295 (m .sizes .thieves) (omega (arith, bounds m p .sizes .thieves-most))
     go false p = refl
 
--- the outcome at a place is that of its entry on the machine that those before it left
-outcome-there : (m : Machine) (es : List Entry) (at : ℕ) → at < length es
-    → getD (outcomesOf m es) at Moved ≡ obey (machineAfter m (take at es)) (getD es at Drain) .outcome
-outcome-there m [] at inside = absurd (not-suc-le-zero inside)
-outcome-there m (e ∷ es) zero inside = refl
-outcome-there m (e ∷ es) (suc at) inside = outcome-there (obey m e .machine) es at (le-of-suc-le-suc inside)
+module _ {M : Type 0} (b : Implementation M Entry) (proved : Proved b) where
+  module _ (s : Sizes) (out : sizesInRange s ≡ false) where
+    -- with sizes out of range every answer is 7 ..
+    all-wait : (es : List Entry) → outcomesOf b (b .fresh s) es ≡ replicate (length es) Wait
+    all-wait [] = refl
+    all-wait (e ∷ es) = (λ i. proved .out-waits s out e i ∷ outcomesOf b (proved .out-stays s out e i) es) ∙ ap (λ os. Wait ∷ os) (all-wait es)
 
--- a machine out of range answers 7 to everything
-all-wait : (m : Machine) → inRange m ≡ false → (es : List Entry) → outcomesOf m es ≡ replicate (length es) Wait
-all-wait m out [] = refl
-all-wait m out (e ∷ es) =
-    let waits = out-of-range-waits m e (ap (λ b. b && thiefIsThere (m .sizes) e) out) in
-    (λ i. waits i .outcome ∷ outcomesOf (waits i .machine) es) ∙ ap (λ os. Wait ∷ os) (all-wait m out es)
+    -- .. and 0 is handed on
+    none-hidden : (es : List Entry) → largest (hiddenOf b (b .fresh s) es) ≡ 0
+    none-hidden [] = refl
+    none-hidden (e ∷ es) = (λ i. max (proved .out-hides s out e i) (largest (hiddenOf b (proved .out-stays s out e i) es))) ∙ ap (max 0) (none-hidden es)
 
--- .. and hands on 0
-none-hidden : (m : Machine) → inRange m ≡ false → (es : List Entry) → largest (hiddenOf m es) ≡ 0
-none-hidden m out [] = refl
-none-hidden m out (e ∷ es) =
-    let waits = out-of-range-waits m e (ap (λ b. b && thiefIsThere (m .sizes) e) out) in
-    (λ i. max (waits i .hidden) (largest (hiddenOf (waits i .machine) es))) ∙ (λ i. max (hidden-out m out i) (none-hidden m out es i))
-
-fresh-out : (s : Sizes) → sizesInRange s ≡ false → inRange (fresh s) ≡ false
-unfolding inRange
-fresh-out s out = rw out
-
-pub any-arrays-obeyed : AnyArraysObeyed
-any-arrays-obeyed s kinds operands =
-    let es = entriesOf s kinds operands in
-    let count = length-entriesUpTo s kinds operands (length kinds) in
-    record {
-      each = length-outcomesFrom s kinds operands;
-      no-entry = λ at r inside refused.
-          outcome-there (fresh s) es at (omega (arith, count))
-          ∙ ap (λ e. obey (machineAfter (fresh s) (take at es)) e .outcome) (entry-there s kinds operands at inside ∙ ap entryToObey refused)
-          ∙ ap (λ d. d .outcome) (no-entry-waits (machineAfter (fresh s) (take at es)) r);
-      out-of-range = λ out. all-wait (fresh s) (fresh-out s out) es ∙ ap (λ n. replicate n Wait) count;
-      nothing-hidden = λ out. none-hidden (fresh s) (fresh-out s out) es;
-    }
+  pub any-arrays-obeyed : AnyArraysObeyed b
+  any-arrays-obeyed s kinds operands =
+      let es = entriesOf s kinds operands in
+      let count = length-entriesUpTo s kinds operands (length kinds) in
+      record {
+        each = length-outcomesFrom b s kinds operands;
+        no-entry = λ at r inside refused.
+            let before = machineAfter b (b .fresh s) (take at es) in
+            each-there (b .next) (b .outcome) (b .fresh s) es at Moved Drain (omega (arith, count))
+            ∙ ap (b .outcome before) (entry-there s kinds operands at inside ∙ ap entryToObey refused)
+            ∙ proved .no-entry before r;
+        out-of-range = λ out. all-wait s out es ∙ ap (λ n. replicate n Wait) count;
+        nothing-hidden = λ out. none-hidden s out es;
+      }
 
 -- ── All entries of a file ───────────────────────────────────────────────────────────────────────────────────────────────────
 

@@ -6,15 +6,16 @@ use mathlib.Core.List.{List, [], _∷_}
 use Prim.Native.Nat.{ℕ, _*_, _<_}
 use lib.Dec.{eqb, leb, ltb}
 use lib.ListN.{length, getD}
+use Rattle.claim.specs.Implementation.{Implementation}
 use Rattle.terms.specs.Refusal.{Refuses, numberOf, placeOf}
-use Rattle.schedule.specs.Types.{Accepted, Check, Failed, Passed, Ran, Reading, Refusal, Running, Short, Sizes}
+use Rattle.schedule.specs.Types.{Accepted, Check, Entry, Failed, Passed, Ran, Reading, Refusal, Running, Short, Sizes}
 use Rattle.schedule.specs.declared.reader.Reading.the-variants as reading
 use Rattle.schedule.specs.declared.runner.Running.the-variants as running
 use Rattle.schedule.specs.Check.{sizesKept}
 use Rattle.schedule.specs.Entries.{checkEntries}
 use Rattle.schedule.specs.Format.{entriesIn, fileLength, kindsIn, operandsIn, sizesIn, wordsIn}
 use Rattle.schedule.specs.Reader.{readFile}
-use Rattle.schedule.specs.Run.{runFile, traceAfter}
+use Rattle.schedule.specs.Run.{runFileBy, traceAfterBy}
 use Rattle.schedule.specs.Trace.{traceLength}
 
 -- any number for kind 2, a thief below the number of thieves for 5 and 6, and 0 for the others
@@ -59,16 +60,16 @@ abbrev pub refusalInRunning : Running → List Refusal
 refusalInRunning (Ran t) = []
 refusalInRunning (running.Refused r) = r ∷ []
 
--- the reader refuses for a fault that the file has, and accepts no file that has one; and so does whoever runs a file
+-- the reader refuses for a fault that the file has, and accepts no file that has one; and so does whoever runs a file, by whichever queue
 abbrev pub ReaderRefusesFaults : Type 0
 ReaderRefusesFaults = (file : List ℕ) → Refuses (fileHas file) (refusalInReading (readFile file))
 
-abbrev pub RunnerRefusesFaults : Type 0
-RunnerRefusesFaults = (file : List ℕ) (room : ℕ) → Refuses (runHas file room) (refusalInRunning (runFile file room))
+abbrev pub RunnerRefusesFaults : {M : Type 0} → Implementation M Entry → Type 0
+RunnerRefusesFaults b = (file : List ℕ) (room : ℕ) → Refuses (runHas file room) (refusalInRunning (runFileBy b file room))
 
 -- what is refused leaves the lent buffer as it was
-abbrev pub RefusedRunUntouched : Type 0
-RefusedRunUntouched = (file trace : List ℕ) (r : Refusal) → runFile file (length trace) ≡ running.Refused r → traceAfter file trace ≡ trace
+abbrev pub RefusedRunUntouched : {M : Type 0} → Implementation M Entry → Type 0
+RefusedRunUntouched b = (file trace : List ℕ) (r : Refusal) → runFileBy b file (length trace) ≡ running.Refused r → traceAfterBy b file trace ≡ trace
 
 -- ── The first faulty entry ──────────────────────────────────────────────────────────────────────────────────────────────────
 

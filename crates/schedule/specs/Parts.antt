@@ -3,13 +3,14 @@ use mathlib.Core.Path.{_≡_}
 use mathlib.Core.List.{List, _++_}
 use Prim.Native.Nat.{ℕ, _+_, _*_, _≤_, _<_}
 use lib.ListN.{getD, length, take}
+use Rattle.claim.specs.Implementation.{Implementation}
 use Rattle.terms.specs.Kinds.{entryOf, kindOf, operandOf}
 use Rattle.schedule.specs.Types.{Accepted, Allowed, Entry, Passed, Sizes}
 use Rattle.schedule.specs.Check.{first}
 use Rattle.schedule.specs.Entries.{checkParts, entryAt}
 use Rattle.schedule.specs.Format.{entriesIn, kindsIn, operandsIn, sizesIn, wordsIn}
 use Rattle.schedule.specs.Reader.{kindPart, kindStart, operandPart, operandStart, readFile, readingOf, sizeChecks}
-use Rattle.schedule.specs.Run.{outcomesFrom, outcomesIn, summaryFrom, summaryIn, traceAfter, tracePut}
+use Rattle.schedule.specs.Run.{outcomesFromBy, outcomesInBy, summaryFromBy, summaryInBy, traceAfterBy, tracePut}
 use Rattle.schedule.specs.Trace.{traceLength}
 
 -- an allowed entry has the kind and the operand that it was read from
@@ -45,11 +46,11 @@ ReadByParts =
     → let right = Accepted (sizesIn file) (entriesIn file) in
     readFile file ≡ readingOf file (checkParts (sizesIn file) (kindPart file right) (operandPart file right))
 
--- and the outcomes of a file that is read, what is told of them, and the trace that is put where there is room for it, are those of its decoded sizes and its two parts
-abbrev pub RunByParts : Type 0
-RunByParts =
+-- and the outcomes of a file that is read, by any queue, what is told of them, and the trace that is put where there is room for it, are those of its decoded sizes and its two parts
+abbrev pub RunByParts : {M : Type 0} → Implementation M Entry → Type 0
+RunByParts b =
     (file : List ℕ) (s : Sizes) (n : ℕ) → readFile file ≡ Accepted s n
-    → let os = outcomesFrom s (kindPart file (readFile file)) (wordsIn (operandPart file (readFile file))) in
-    (outcomesIn file ≡ os)
-    × (summaryIn file ≡ summaryFrom s (kindPart file (readFile file)) (wordsIn (operandPart file (readFile file))))
-    × ((trace : List ℕ) → traceLength n ≤ length trace → traceAfter file trace ≡ tracePut os trace)
+    → let os = outcomesFromBy b s (kindPart file (readFile file)) (wordsIn (operandPart file (readFile file))) in
+    (outcomesInBy b file ≡ os)
+    × (summaryInBy b file ≡ summaryFromBy b s (kindPart file (readFile file)) (wordsIn (operandPart file (readFile file))))
+    × ((trace : List ℕ) → traceLength n ≤ length trace → traceAfterBy b file trace ≡ tracePut os trace)

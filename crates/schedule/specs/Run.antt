@@ -1,4 +1,4 @@
--- A file run, and one step of a run. Renders "Order" and "Trace", of "The numbers", as far as they are about a run, 8 ROOM, the totals of "The program's lines", and of request 4, in 02, that each entry hands its number on.
+-- A file run, by any queue on its machine, and one step of a run. A name that ends in `By` is of any queue, which is its first argument; without these letters it is of FF-THE. Renders "Order" and "Trace", of "The numbers", as far as they are about a run, 8 ROOM, the totals of "The program's lines", and of request 4, in 02, that each entry hands its number on.
 use mathlib.Core.Path.{_≡_}
 use mathlib.Core.Bool.{cond, false}
 use mathlib.Core.List.{List, [], _∷_, map}
@@ -11,8 +11,11 @@ use Rattle.terms.specs.Kinds.{kindOf, operandOf}
 use Rattle.terms.specs.Tally.{counted, noneCounted}
 use Rattle.terms.specs.Lists.{range}
 use Rattle.terms.specs.Sizes.{sizesInRange}
+use Rattle.claim.specs.Implementation.{Implementation}
+use Rattle.claim.specs.Run.{hiddenOf, machineAfter, outcomesOf}
+use Rattle.machine.specs.Linearizable.{ffThe}
 use Rattle.machine.specs.Machine.{done, fresh}
-use Rattle.machine.specs.Obey.{hiddenOf, machineAfter, obey, outcomesOf}
+use Rattle.machine.specs.Obey.{obey}
 use Rattle.schedule.specs.Types.{Accepted, Entry, Machine, Outcome, Ran, Reading, Refusal, Room, Running, Sizes, Stepped, Summary, Tally}
 use Rattle.schedule.specs.declared.reader.Reading.the-variants as reading
 use Rattle.schedule.specs.declared.runner.Running.the-variants as running
@@ -20,7 +23,7 @@ use Rattle.schedule.specs.Entries.{entryAt, entryToObey}
 use Rattle.schedule.specs.Format.{entriesIn, kindsIn, operandsIn, sizesIn}
 use Rattle.number.specs.Number.{overwritten}
 use Rattle.schedule.specs.Reader.{readFile}
-use Rattle.schedule.specs.Totals.{summaryOf, tallyOf}
+use Rattle.schedule.specs.Totals.{summaryBy, tallyOf}
 use Rattle.schedule.specs.Trace.{traceFits, traceLength, traceOf}
 
 -- ── One step ────────────────────────────────────────────────────────────────────────────────────────────────────────────────
@@ -42,30 +45,32 @@ abbrev pub afterSteps : Machine → Tally → List Entry → Machine × Tally
 afterSteps m t [] = (m, t)
 afterSteps m t (e ∷ es) = afterSteps (stepped m t e .machine) (stepped m t e .tally) es
 
--- ── What a file has the machine do ──────────────────────────────────────────────────────────────────────────────────────────
+-- ── What a file has a queue do ──────────────────────────────────────────────────────────────────────────────────────────────
 
 -- the entries of two arrays, a kind and an operand each, in their order
 abbrev pub entriesOf : Sizes → List ℕ → List ℕ → List Entry
 entriesOf s kinds operands = map (λ at. entryToObey (entryAt s kinds operands at)) (range (length kinds))
 
--- their outcomes, obeyed one by one from the fresh machine; `AnyArraysObeyed`, below, says what comes of sizes and arrays that are not checked
-abbrev pub outcomesFrom : Sizes → List ℕ → List ℕ → List Outcome
-outcomesFrom s kinds operands = outcomesOf (fresh s) (entriesOf s kinds operands)
-
--- .. and what is told of all of them
-abbrev pub summaryFrom : Sizes → List ℕ → List ℕ → Summary
-summaryFrom s kinds operands = summaryOf (fresh s) (entriesOf s kinds operands)
-
--- the entries of a file, their outcomes, and what is told of all of them
-
+-- the entries of a file
 abbrev pub scheduleIn : List ℕ → List Entry
 scheduleIn file = entriesOf (sizesIn file) (kindsIn (entriesIn file) file) (operandsIn (entriesIn file) file)
 
-abbrev pub outcomesIn : List ℕ → List Outcome
-outcomesIn file = outcomesOf (fresh (sizesIn file)) (scheduleIn file)
+module _ {M : Type 0} (b : Implementation M Entry) where
+  -- the outcomes of two arrays, obeyed one by one from the fresh machine; `AnyArraysObeyed`, below, says what comes of sizes and arrays that are not checked
+  abbrev pub outcomesFromBy : Sizes → List ℕ → List ℕ → List Outcome
+  outcomesFromBy s kinds operands = outcomesOf b (b .fresh s) (entriesOf s kinds operands)
 
-abbrev pub summaryIn : List ℕ → Summary
-summaryIn file = summaryOf (fresh (sizesIn file)) (scheduleIn file)
+  -- .. and what is told of all of them
+  abbrev pub summaryFromBy : Sizes → List ℕ → List ℕ → Summary
+  summaryFromBy s kinds operands = summaryBy b (b .fresh s) (entriesOf s kinds operands)
+
+  -- the outcomes of a file
+  abbrev pub outcomesInBy : List ℕ → List Outcome
+  outcomesInBy file = outcomesOf b (b .fresh (sizesIn file)) (scheduleIn file)
+
+  -- .. and what is told of all of them
+  abbrev pub summaryInBy : List ℕ → Summary
+  summaryInBy file = summaryBy b (b .fresh (sizesIn file)) (scheduleIn file)
 
 -- a buffer into which the trace of these outcomes is put: at its front, if it fits; else it stays as it was
 abbrev pub tracePut : List Outcome → List ℕ → List ℕ
@@ -73,22 +78,50 @@ tracePut os buffer = cond (traceFits (length os) (length buffer)) (overwritten 0
 
 -- ── A run ───────────────────────────────────────────────────────────────────────────────────────────────────────────────────
 
--- the reader's refusals come first, then ROOM
-abbrev pub runningOf : List ℕ → ℕ → Reading → Running
-runningOf file room (reading.Refused r) = running.Refused r
-runningOf file room (Accepted s entries) = cond (ltb room (traceLength entries)) (running.Refused Room) (Ran (summaryIn file))
-
--- the answer of running a file, with a trace buffer of so many bytes: the summary, or the refusal
-abbrev pub runFile : List ℕ → ℕ → Running
-runFile file room = runningOf file room (readFile file)
-
+-- a new trace over what a buffer held, unless the file was refused
 abbrev pub traceIf : List ℕ → List ℕ → Running → List ℕ
 traceIf new trace (Ran t) = overwritten 0 new trace
 traceIf new trace (running.Refused r) = trace
 
--- what the trace buffer holds afterwards: the trace and, beyond it, what it held; if refused, all that it held
+module _ {M : Type 0} (b : Implementation M Entry) where
+  -- the reader's refusals come first, then ROOM
+  abbrev pub runningBy : List ℕ → ℕ → Reading → Running
+  runningBy file room (reading.Refused r) = running.Refused r
+  runningBy file room (Accepted s entries) = cond (ltb room (traceLength entries)) (running.Refused Room) (Ran (summaryInBy b file))
+
+  -- the answer of running a file, with a trace buffer of so many bytes: the summary, or the refusal
+  abbrev pub runFileBy : List ℕ → ℕ → Running
+  runFileBy file room = runningBy file room (readFile file)
+
+  -- what the trace buffer holds afterwards: the trace and, beyond it, what it held; if refused, all that it held
+  abbrev pub traceAfterBy : List ℕ → List ℕ → List ℕ
+  traceAfterBy file trace = traceIf (traceOf (outcomesInBy b file)) trace (runFileBy file (length trace))
+
+-- ── Of FF-THE ───────────────────────────────────────────────────────────────────────────────────────────────────────────────
+
+-- the outcomes of two arrays, and what is told of all of them
+
+abbrev pub outcomesFrom : Sizes → List ℕ → List ℕ → List Outcome
+outcomesFrom = outcomesFromBy ffThe
+
+abbrev pub summaryFrom : Sizes → List ℕ → List ℕ → Summary
+summaryFrom = summaryFromBy ffThe
+
+-- the outcomes of a file, and what is told of all of them
+
+abbrev pub outcomesIn : List ℕ → List Outcome
+outcomesIn = outcomesInBy ffThe
+
+abbrev pub summaryIn : List ℕ → Summary
+summaryIn = summaryInBy ffThe
+
+-- the answer of running a file, and what the trace buffer holds afterwards
+
+abbrev pub runFile : List ℕ → ℕ → Running
+runFile = runFileBy ffThe
+
 abbrev pub traceAfter : List ℕ → List ℕ → List ℕ
-traceAfter file trace = traceIf (traceOf (outcomesIn file)) trace (runFile file (length trace))
+traceAfter = traceAfterBy ffThe
 
 -- ── What a run is ───────────────────────────────────────────────────────────────────────────────────────────────────────────
 
@@ -96,23 +129,23 @@ traceAfter file trace = traceIf (traceOf (outcomesIn file)) trace (runFile file 
 abbrev pub RunBySteps : Type 0
 RunBySteps =
     (s : Sizes) (es : List Entry)
-    → (outcomesOfSteps (fresh s) noneCounted es ≡ outcomesOf (fresh s) es)
-    × (hiddenOfSteps (fresh s) noneCounted es ≡ hiddenOf (fresh s) es)
-    × (afterSteps (fresh s) noneCounted es ≡ (machineAfter (fresh s) es, tallyOf (outcomesOf (fresh s) es)))
+    → (outcomesOfSteps (fresh s) noneCounted es ≡ outcomesOf ffThe (fresh s) es)
+    × (hiddenOfSteps (fresh s) noneCounted es ≡ hiddenOf ffThe (fresh s) es)
+    × (afterSteps (fresh s) noneCounted es ≡ (machineAfter ffThe (fresh s) es, tallyOf (outcomesOf ffThe (fresh s) es)))
 
--- where no entry is allowed, every machine answers 7 and stays as it is
+-- where no entry is allowed, every machine of FF-THE answers 7 and stays as it is
 abbrev pub NoEntryWaits : Type 0
 NoEntryWaits = (m : Machine) (r : Refusal) → obey m (entryToObey (meaning.Refused r)) ≡ done Wait m
 
 -- sizes and arrays that are not checked: each place has its outcome, 7 where no entry is allowed, and 7 everywhere, with the number 0, if a size is out of range
-pub record AnyArrays (s : Sizes) (kinds operands : List ℕ) : Type 0 where
-  pub each : length (outcomesFrom s kinds operands) ≡ length kinds
-  pub no-entry : (at : ℕ) (r : Refusal) → at < length kinds → entryAt s kinds operands at ≡ meaning.Refused r → getD (outcomesFrom s kinds operands) at Moved ≡ Wait
-  pub out-of-range : sizesInRange s ≡ false → outcomesFrom s kinds operands ≡ replicate (length kinds) Wait
-  pub nothing-hidden : sizesInRange s ≡ false → summaryFrom s kinds operands .hidden ≡ 0
+pub record AnyArrays {M : Type 0} (b : Implementation M Entry) (s : Sizes) (kinds operands : List ℕ) : Type 0 where
+  pub each : length (outcomesFromBy b s kinds operands) ≡ length kinds
+  pub no-entry : (at : ℕ) (r : Refusal) → at < length kinds → entryAt s kinds operands at ≡ meaning.Refused r → getD (outcomesFromBy b s kinds operands) at Moved ≡ Wait
+  pub out-of-range : sizesInRange s ≡ false → outcomesFromBy b s kinds operands ≡ replicate (length kinds) Wait
+  pub nothing-hidden : sizesInRange s ≡ false → summaryFromBy b s kinds operands .hidden ≡ 0
 
-abbrev pub AnyArraysObeyed : Type 0
-AnyArraysObeyed = (s : Sizes) (kinds operands : List ℕ) → AnyArrays s kinds operands
+abbrev pub AnyArraysObeyed : {M : Type 0} → Implementation M Entry → Type 0
+AnyArraysObeyed b = (s : Sizes) (kinds operands : List ℕ) → AnyArrays b s kinds operands
 
 -- the entries of an accepted file are all of it: their kinds and operands are its arrays
 abbrev pub ScheduleOfFile : Type 0

@@ -7,7 +7,9 @@ use lib.Dec.{leb}
 use Rattle.terms.specs.Lists.{largest, occurrences}
 use Rattle.terms.specs.Outcome.{numberOf}
 use Rattle.terms.specs.Tally.{counted, noneCounted}
-use Rattle.machine.specs.Obey.{hiddenOf, outcomesOf}
+use Rattle.claim.specs.Implementation.{Implementation}
+use Rattle.claim.specs.Run.{hiddenOf, outcomesOf}
+use Rattle.machine.specs.Linearizable.{ffThe}
 use Rattle.schedule.specs.Types.{Entry, Machine, Outcome, Summary, Tally}
 
 -- brought up to date by every outcome of a list, the first one first
@@ -19,9 +21,13 @@ countedFrom t (o ∷ os) = countedFrom (counted t o) os
 abbrev pub tallyOf : List Outcome → Tally
 tallyOf os = countedFrom noneCounted os
 
--- of the entries of a run from this machine: the totals of their outcomes, and the largest number of stores of take step 1 that were pending after any of them; 0 for no entries
+-- of the entries of a queue's run from this machine: the totals of their outcomes, and the largest number of stores of take step 1 that were pending after any of them; 0 for no entries
+abbrev pub summaryBy : {M : Type 0} → Implementation M Entry → M → List Entry → Summary
+summaryBy b m es = record { tally = tallyOf (outcomesOf b m es); hidden = largest (hiddenOf b m es) }
+
+-- .. of FF-THE's run
 abbrev pub summaryOf : Machine → List Entry → Summary
-summaryOf m es = record { tally = tallyOf (outcomesOf m es); hidden = largest (hiddenOf m es) }
+summaryOf = summaryBy ffThe
 
 -- ── What a total is ─────────────────────────────────────────────────────────────────────────────────────────────────────────
 

@@ -48,7 +48,7 @@ module _ (file : List ℕ) (count room : ℕ) (made : Checked file count room) w
   long-es = schedule-length file (sizesIn file) (entriesIn file) (readable-accepted file (made .readable))
 
   long-os : length os ≡ entriesIn file
-  long-os = outcomes-counted file (sizesIn file) (entriesIn file) (readable-accepted file (made .readable))
+  long-os = outcomes-counted ffThe file (sizesIn file) (entriesIn file) (readable-accepted file (made .readable))
 
   short : length es ≤ 4096
   short = omega (arith, few-entries (sizesIn file) (entriesIn file) (made .readable .ranges), long-es)

@@ -25,6 +25,7 @@ use Rattle.comparison.specs.Comparison.{answered, linesFrom, sameForAll,
 use Rattle.number.specs.Number.{overwritten}
 use Rattle.schedule.specs.Reader.{kindPart, operandPart, readFile}
 use Rattle.schedule.specs.Run.{entriesOf, outcomesFrom}
+use Rattle.machine.specs.Linearizable.{ffThe}
 use Rattle.machine.specs.Machine.{fresh}
 use Rattle.schedule.proofs.Laws.Run.{entry-there, length-entriesUpTo, length-outcomesOf, line-there, parts-obeyed}
 
@@ -46,7 +47,7 @@ module _ (party : ℕ) (s : Sizes) (kinds operands l : List ℕ) (fit : allBelow
   -- whether an entry gets an answer for the party
   answered-there : (at : ℕ) → at < length kinds
       → answered party s kinds operands trace at ≡ (isAnswer (getD os at Moved) && eqb (partyNumber (getD (entriesOf s kinds operands) at Drain)) party)
-  answered-there at there = λ i. isAnswerNumber (line-there s kinds operands l fit at there i .number) && eqb (partyNumber (sym (entry-there s kinds operands at there) i)) party
+  answered-there at there = λ i. isAnswerNumber (line-there ffThe s kinds operands l fit at there i .number) && eqb (partyNumber (sym (entry-there s kinds operands at there) i)) party
 
   -- from a place on, where the entries and the outcomes from there on are known
   answers-from : (es : List Entry) (os′ : List Outcome) (at : ℕ) → length es ≡ length os′ → at + length es ≡ length kinds
@@ -57,7 +58,7 @@ module _ (party : ℕ) (s : Sizes) (kinds operands l : List ℕ) (fit : allBelow
   answers-from (e ∷ es) (o ∷ os′) at long end each =
       let there : at < length kinds = omega arith in
       let here = each 0 at (omega arith) in
-      let line = line-there s kinds operands l fit at there ∙ ap lineOf (sym (here .1)) in
+      let line = line-there ffThe s kinds operands l fit at there ∙ ap lineOf (sym (here .1)) in
       let test = answered-there at there ∙ (λ i. isAnswer (sym (here .1) i) && eqb (partyNumber (sym (here .0) i)) party) in
       let rest = answers-from es os′ (suc at) (suc-inj long) (omega arith) (λ i k p. each (suc i) k (omega arith)) in
       (λ i. cond (test i) (line i ∷ []) [] ++ rest i) ∙ one-before (isAnswer o && eqb (partyNumber e) party) (lineOf o) (answersFor party es os′)
@@ -68,7 +69,7 @@ module _ (party : ℕ) (s : Sizes) (kinds operands l : List ℕ) (fit : allBelow
       let count = length-entriesUpTo s kinds operands (length kinds) in
       let whole : length kinds - 0 ≡ length (entriesOf s kinds operands) = omega (arith, count) in
       ap (λ k. concatMap (λ i. cond (answered party s kinds operands trace i) (lineIn (length kinds) trace i ∷ []) []) (rangeFrom 0 k)) whole
-      ∙ answers-from (entriesOf s kinds operands) os 0 (sym (length-outcomesOf (fresh s) (entriesOf s kinds operands))) (omega (arith, count))
+      ∙ answers-from (entriesOf s kinds operands) os 0 (sym (length-outcomesOf ffThe (fresh s) (entriesOf s kinds operands))) (omega (arith, count))
       (λ i k p. let same : i ≡ k = omega arith in (ap (λ j. getD (entriesOf s kinds operands) j Drain) same, ap (λ j. getD os j Moved) same))
 
 -- .. and so, of two runs, the comparison for the worker and each thief
@@ -83,8 +84,8 @@ pub same-files : (file other : List ℕ) (s : Sizes) (n m : ℕ) → readFile fi
     → sameRuns s (kindPart file (Accepted s n)) (wordsIn (operandPart file (Accepted s n))) (kindPart other (Accepted s m)) (wordsIn (operandPart other (Accepted s m)))
     ≡ sameAnswers (s .thieves) file other
 same-files file other s n m accepted other-accepted =
-    let one = parts-obeyed file s n accepted in
-    let two = parts-obeyed other s m other-accepted in
+    let one = parts-obeyed ffThe file s n accepted in
+    let two = parts-obeyed ffThe other s m other-accepted in
     λ i. all (λ party. sameLines (answersFor party (one .entries i) (one .outcomes i)) (answersFor party (two .entries i) (two .outcomes i))) (range (s .thieves + 1))
 
 -- ── The tests are equality ──────────────────────────────────────────────────────────────────────────────────────────────────

@@ -1,45 +1,46 @@
--- Laws of a run that has reached a place: what machine, totals, largest number and trace buffer are there; that it is so at first, and with each entry more; and what it says at the end. They hold from any machine on.
+-- Laws of a run that has reached a place: what machine, totals, largest number and trace buffer are there; that it is so at first, and with each entry more; and what it says at the end. They hold of any queue, from any of its machines on.
 use mathlib.Core.Path.{_≡_, refl, ap, sym, _∙_}
 use mathlib.Core.Bool.{Bool, true, false, cond}
 use mathlib.Core.List.{List, [], _∷_, _++_}
 use Prim.Native.Nat.{ℕ, _+_, _*_, _<_, max}
 use native.Mathlib.Omega.{arith}
 use lib.ListN.{length}
-use Rattle.machine.specs.declared.machine.Done.{Done}
-use Rattle.machine.specs.Obey.{hiddenOf, machineAfter, obey, outcomesOf}
+use Rattle.claim.specs.Implementation.{Implementation}
+use Rattle.claim.specs.Run.{hiddenOf, machineAfter, outcomesOf}
 use Rattle.terms.specs.Lists.{largest}
 use Rattle.terms.specs.Outcome.{numberOf, valueOf}
 use Rattle.terms.specs.Tally.{counted, noneCounted}
 use Rattle.terms.proofs.Laws.Largest.{largest-more}
+use Rattle.terms.proofs.Laws.Runs.{after-more, each-more}
 use Rattle.terms.proofs.Laws.Tests.{either}
-use Rattle.schedule.specs.Types.{Entry, Machine, Outcome, Sizes, Tally}
+use Rattle.schedule.specs.Types.{Entry, Outcome, Sizes, Tally}
 use Rattle.schedule.specs.Entries.{entryAt, entryToObey}
 use Rattle.number.specs.Number.{littleEndian, overwritten}
 use Rattle.schedule.specs.Run.{entriesOf, tracePut}
-use Rattle.schedule.specs.Totals.{summaryOf, tallyOf}
+use Rattle.schedule.specs.Totals.{summaryBy, tallyOf}
 use Rattle.schedule.specs.Trace.{traceFits, traceOf}
-use Rattle.schedule.proofs.Laws.Run.{entriesUpTo, eachOf-more, entriesUpTo-more, fits-room, length-entriesUpTo, length-outcomesOf, machineAfter-more, tallyOf-more}
+use Rattle.schedule.proofs.Laws.Run.{entriesUpTo, entriesUpTo-more, fits-room, length-entriesUpTo, length-outcomesOf, tallyOf-more}
 use Rattle.schedule.proofs.Laws.Trace.{traceSoFar, traceSoFar-all, traceSoFar-more, traceSoFar-none}
 
 -- the outcomes of the first entries
-abbrev pub outcomesUpTo : Machine → Sizes → List ℕ → List ℕ → ℕ → List Outcome
-outcomesUpTo m s kinds operands at = outcomesOf m (entriesUpTo s kinds operands at)
+abbrev pub outcomesUpTo : {M : Type 0} → Implementation M Entry → M → Sizes → List ℕ → List ℕ → ℕ → List Outcome
+outcomesUpTo b m s kinds operands at = outcomesOf b m (entriesUpTo s kinds operands at)
 
 -- machine, totals, largest number and trace buffer after so many entries; l is the buffer as it was lent, and stays so if the trace does not fit
-pub record Obeyed (m : Machine) (s : Sizes) (kinds operands l trace : List ℕ) (machine : Machine) (tally : Tally) (hidden at : ℕ) : Type 0 where
-  pub machine-then : machine ≡ machineAfter m (entriesUpTo s kinds operands at)
-  pub tally-then : tally ≡ tallyOf (outcomesUpTo m s kinds operands at)
-  pub hidden-then : hidden ≡ largest (hiddenOf m (entriesUpTo s kinds operands at))
-  pub trace-then : trace ≡ cond (traceFits (length kinds) (length l)) (traceSoFar (length kinds) (outcomesUpTo m s kinds operands at) l) l
+pub record Obeyed {M : Type 0} (b : Implementation M Entry) (m : M) (s : Sizes) (kinds operands l trace : List ℕ) (machine : M) (tally : Tally) (hidden at : ℕ) : Type 0 where
+  pub machine-then : machine ≡ machineAfter b m (entriesUpTo s kinds operands at)
+  pub tally-then : tally ≡ tallyOf (outcomesUpTo b m s kinds operands at)
+  pub hidden-then : hidden ≡ largest (hiddenOf b m (entriesUpTo s kinds operands at))
+  pub trace-then : trace ≡ cond (traceFits (length kinds) (length l)) (traceSoFar (length kinds) (outcomesUpTo b m s kinds operands at) l) l
 
-module _ (m : Machine) (s : Sizes) (kinds operands l : List ℕ) where
+module _ {M : Type 0} (b : Implementation M Entry) (m : M) (s : Sizes) (kinds operands l : List ℕ) where
   abbrev n : ℕ
   n = length kinds
 
-  length-outcomesUpTo : (at : ℕ) → length (outcomesUpTo m s kinds operands at) ≡ at
-  length-outcomesUpTo at = length-outcomesOf m (entriesUpTo s kinds operands at) ∙ length-entriesUpTo s kinds operands at
+  length-outcomesUpTo : (at : ℕ) → length (outcomesUpTo b m s kinds operands at) ≡ at
+  length-outcomesUpTo at = length-outcomesOf b m (entriesUpTo s kinds operands at) ∙ length-entriesUpTo s kinds operands at
 
-  pub obeyed-none : (machine : Machine) (tally : Tally) → machine ≡ m → tally ≡ noneCounted → Obeyed m s kinds operands l l machine tally 0 0
+  pub obeyed-none : (machine : M) (tally : Tally) → machine ≡ m → tally ≡ noneCounted → Obeyed b m s kinds operands l l machine tally 0 0
   obeyed-none machine tally same none =
       record { machine-then = same; tally-then = none; hidden-then = refl; trace-then = either (λ t. l ≡ t) (traceFits n (length l)) (traceSoFar-none n l) refl }
 
@@ -57,49 +58,56 @@ module _ (m : Machine) (s : Sizes) (kinds operands l : List ℕ) where
   trace-more os o more trace after false fits so-far put = put ∙ so-far
 
   -- what the step and the two stores of an entry leave
-  pub obeyed-more : (trace : List ℕ) (machine : Machine) (tally : Tally) (hidden at : ℕ) → at < n → length trace ≡ length l
-      → Obeyed m s kinds operands l trace machine tally hidden at
+  pub obeyed-more : (trace : List ℕ) (machine : M) (tally : Tally) (hidden at : ℕ) → at < n → length trace ≡ length l
+      → Obeyed b m s kinds operands l trace machine tally hidden at
       → (e : Entry) → e ≡ entryToObey (entryAt s kinds operands at)
-      → (done : Done) → done ≡ obey machine e
-      → (most : ℕ) → most ≡ max hidden (done .hidden)
-      → (totals : Tally) → totals ≡ counted tally (done .outcome)
+      → (next : M) → next ≡ b .next machine e
+      → (outcome : Outcome) → outcome ≡ b .outcome machine e
+      → (number : ℕ) → number ≡ b .hidden machine e
+      → (most : ℕ) → most ≡ max hidden number
+      → (totals : Tally) → totals ≡ counted tally outcome
       → (after : List ℕ)
-      → after ≡ cond (traceFits n (length trace)) (overwritten (4 + n + 4 * at) (littleEndian 4 (valueOf (done .outcome))) (overwritten (4 + at) (numberOf (done .outcome) ∷ []) trace)) trace
-      → Obeyed m s kinds operands l after (done .machine) totals most (at + 1)
-  obeyed-more trace machine tally hidden at inside long so-far e meant done by-obeying most by-comparing totals by-counting after put =
+      → after ≡ cond (traceFits n (length trace)) (overwritten (4 + n + 4 * at) (littleEndian 4 (valueOf outcome)) (overwritten (4 + at) (numberOf outcome ∷ []) trace)) trace
+      → Obeyed b m s kinds operands l after next totals most (at + 1)
+  obeyed-more trace machine tally hidden at inside long so-far e meant next by-next outcome by-outcome number by-number most by-comparing totals by-counting after put =
       let es = entriesUpTo s kinds operands at in
-      let os = outcomesOf m es in
+      let os = outcomesOf b m es in
       -- the entry, as one for the machine and the totals that the entries before left
-      let by-then : done ≡ obey (machineAfter m es) (entryToObey (entryAt s kinds operands at)) = by-obeying ∙ (λ i. obey (so-far .machine-then i) (meant i)) in
-      let o = obey (machineAfter m es) (entryToObey (entryAt s kinds operands at)) .outcome in
+      let here = entryToObey (entryAt s kinds operands at) in
+      let o = b .outcome (machineAfter b m es) here in
+      let outcome-then : outcome ≡ o = by-outcome ∙ (λ i. b .outcome (so-far .machine-then i) (meant i)) in
+      let number-then : number ≡ b .hidden (machineAfter b m es) here = by-number ∙ (λ i. b .hidden (so-far .machine-then i) (meant i)) in
       let entries-more = entriesUpTo-more s kinds operands at in
-      let outcomes-more : os ++ (o ∷ []) ≡ outcomesUpTo m s kinds operands (at + 1) = sym (ap (outcomesOf m) entries-more ∙ eachOf-more (λ d. d .outcome) m es _) in
+      let outcomes-more : os ++ (o ∷ []) ≡ outcomesUpTo b m s kinds operands (at + 1) = sym (ap (outcomesOf b m) entries-more ∙ each-more (b .next) (b .outcome) m es here) in
       let count : at ≡ length os = sym (length-outcomesUpTo at) in
       let put-here : stored os o trace after (traceFits n (length l)) =
       put
-      ∙ (λ i. cond (traceFits n (long i)) (overwritten (4 + n + 4 * count i) (littleEndian 4 (valueOf (by-then i .outcome))) (overwritten (4 + count i) (numberOf (by-then i .outcome) ∷ []) trace)) trace) in
+      ∙ (λ i. cond (traceFits n (long i)) (overwritten (4 + n + 4 * count i) (littleEndian 4 (valueOf (outcome-then i))) (overwritten (4 + count i) (numberOf (outcome-then i) ∷ []) trace)) trace) in
       record {
-        machine-then = ap (λ d. d .machine) by-then ∙ sym (ap (machineAfter m) entries-more ∙ machineAfter-more m es _);
-        tally-then = by-counting ∙ (λ i. counted (so-far .tally-then i) (by-then i .outcome)) ∙ sym (tallyOf-more os o) ∙ ap tallyOf outcomes-more;
-        hidden-then = by-comparing ∙ (λ i. max (so-far .hidden-then i) (by-then i .hidden)) ∙ sym (ap (λ es. largest (hiddenOf m es)) entries-more ∙ ap largest (eachOf-more (λ d. d .hidden) m es _) ∙ largest-more (hiddenOf m es) _);
+        machine-then = by-next ∙ (λ i. b .next (so-far .machine-then i) (meant i)) ∙ sym (ap (machineAfter b m) entries-more ∙ after-more (b .next) m es here);
+        tally-then = by-counting ∙ (λ i. counted (so-far .tally-then i) (outcome-then i)) ∙ sym (tallyOf-more os o) ∙ ap tallyOf outcomes-more;
+        hidden-then =
+            by-comparing
+            ∙ (λ i. max (so-far .hidden-then i) (number-then i))
+            ∙ sym (ap (λ es. largest (hiddenOf b m es)) entries-more ∙ ap largest (each-more (b .next) (b .hidden) m es here) ∙ largest-more (hiddenOf b m es) _);
         trace-then =
             trace-more os o (omega arith) trace after (traceFits n (length l)) refl (so-far .trace-then) put-here
             ∙ ap (λ os. cond (traceFits n (length l)) (traceSoFar n os l) l) outcomes-more;
       }
 
   -- at the end the number of entries is all that the trace lacks
-  pub obeyed-all : (trace : List ℕ) (machine : Machine) (tally : Tally) (hidden at : ℕ) → at ≡ n → length trace ≡ length l → Obeyed m s kinds operands l trace machine tally hidden at
-      → let os = outcomesOf m (entriesOf s kinds operands) in
-      (record { tally = tally; hidden = hidden } ≡ summaryOf m (entriesOf s kinds operands)) × (cond (traceFits n (length trace)) (overwritten 0 (littleEndian 4 n) trace) trace ≡ tracePut os l)
+  pub obeyed-all : (trace : List ℕ) (machine : M) (tally : Tally) (hidden at : ℕ) → at ≡ n → length trace ≡ length l → Obeyed b m s kinds operands l trace machine tally hidden at
+      → let os = outcomesOf b m (entriesOf s kinds operands) in
+      (record { tally = tally; hidden = hidden } ≡ summaryBy b m (entriesOf s kinds operands)) × (cond (traceFits n (length trace)) (overwritten 0 (littleEndian 4 n) trace) trace ≡ tracePut os l)
   obeyed-all trace machine tally hidden at end long so-far = (
-    (λ i. record { tally = so-far .tally-then i; hidden = so-far .hidden-then i }) ∙ ap (λ at. summaryOf m (entriesUpTo s kinds operands at)) end,
+    (λ i. record { tally = so-far .tally-then i; hidden = so-far .hidden-then i }) ∙ ap (λ at. summaryBy b m (entriesUpTo s kinds operands at)) end,
     ap (λ k. cond (traceFits n k) (overwritten 0 (littleEndian 4 n) trace) trace) long
-        ∙ whole (traceFits n (length l)) refl (so-far .trace-then ∙ ap (λ at. cond (traceFits n (length l)) (traceSoFar n (outcomesUpTo m s kinds operands at) l) l) end)
+        ∙ whole (traceFits n (length l)) refl (so-far .trace-then ∙ ap (λ at. cond (traceFits n (length l)) (traceSoFar n (outcomesUpTo b m s kinds operands at) l) l) end)
         ∙ ap (λ k. cond (traceFits k (length l)) (overwritten 0 (traceOf os) l) l) count,
   )
     where
       os : List Outcome
-      os = outcomesOf m (entriesOf s kinds operands)
+      os = outcomesOf b m (entriesOf s kinds operands)
 
       count : n ≡ length os
       count = sym (length-outcomesUpTo n)

@@ -1,4 +1,4 @@
--- Laws of runs: one entry more, the entries of two arrays one by one, as many as there are places; that values fit four bytes where the operands do; what decides a run, and whether a trace fits.
+-- Laws of runs, of any queue on its machine: the totals with one outcome more, the entries of two arrays one by one, as many as there are places; that values fit four bytes where the operands do; what decides a run, and whether a trace fits.
 use mathlib.Core.Path.{_≡_, refl, ap, sym, _∙_}
 use mathlib.Core.Bool.{Bool, true, false, _&&_}
 use mathlib.Core.List.{List, [], _∷_, _++_, map, map-append}
@@ -16,44 +16,32 @@ use Rattle.terms.specs.Sizes.{sizesInRange}
 use Rattle.terms.specs.Tally.{counted, noneCounted}
 use Rattle.terms.proofs.Laws.Tests.{and-left, and-right, by-test, either}
 use Rattle.terms.specs.Lists.{all, range}
-use Rattle.machine.specs.Machine.{fresh}
-use Rattle.machine.specs.declared.machine.Done.{Done}
-use Rattle.machine.specs.Obey.{eachOf, machineAfter, obey, outcomesOf}
+use Rattle.claim.specs.Implementation.{Implementation}
+use Rattle.claim.specs.Run.{outcomesOf}
 use Rattle.properties.specs.Renumbering.{renumberEntry, renumberOutcome}
 use Rattle.terms.proofs.Laws.Lists.{all-getD}
-use Rattle.terms.proofs.Laws.Runs.{after-more, each-more, length-each}
+use Rattle.terms.proofs.Laws.Runs.{length-each}
 use Rattle.terms.proofs.Laws.Sums.{length-range, range-suc}
-use Rattle.properties.proofs.Renumbering.{blind-to-numbers}
 use Rattle.schedule.specs.Types.{BeginPut, BeginSteal, BeginTake, ClientStore, Drain, Entry, Refusal, ThiefStep, WorkerStep}
-use Rattle.schedule.specs.Types.{Accepted, Allowed, Machine, Meaning, Outcome, Passed, Ran, Reading, Room, Running, Sizes, Summary, Tally}
+use Rattle.schedule.specs.Types.{Accepted, Allowed, Meaning, Outcome, Passed, Ran, Reading, Room, Running, Sizes, Summary, Tally}
 use Rattle.schedule.specs.declared.reader.Reading.the-variants as reading
 use Rattle.schedule.specs.declared.runner.Running.the-variants as running
 use Rattle.schedule.specs.Entries.{checkEntries, entryAt, entryToObey}
 use Rattle.schedule.specs.Format.{allBelow, entriesIn, kindsIn, operandsIn, sizesIn, wordsIn}
 use Rattle.schedule.specs.Reader.{kindPart, operandPart, readFile}
 use Rattle.number.specs.Number.{overwritten}
-use Rattle.schedule.specs.Run.{entriesOf, outcomesFrom, outcomesIn, runFile, runningOf, scheduleIn, summaryFrom, summaryIn, tracePut}
-use Rattle.schedule.specs.Totals.{countedFrom, summaryOf, tallyOf}
+use Rattle.schedule.specs.Run.{entriesOf, outcomesFromBy, outcomesInBy, runFileBy, runningBy, scheduleIn, summaryFromBy, summaryInBy, tracePut}
+use Rattle.schedule.specs.Totals.{countedFrom, summaryBy, tallyOf}
 use Rattle.schedule.specs.Trace.{lineIn, lineOf, traceFits, traceLength, traceOf}
 use Rattle.schedule.proofs.Laws.Bytes.{allBelow-drop}
 use Rattle.schedule.proofs.Laws.Check.{few-entries, getD-map-rangeFrom, ranges-sizes}
 use Rattle.schedule.proofs.Laws.Entries.{allowed-party, check-allowed, entries-passed, entry-as-read, not-allowed}
 use Rattle.schedule.proofs.Laws.Format.{decode-below, length-kindsIn, operandsIn-words}
+use Rattle.schedule.proofs.Laws.Proved.{Proved}
 use Rattle.schedule.proofs.Laws.Trace.{lineIn-written}
 use Rattle.schedule.proofs.Laws.Reader.{accepted-long, accepted-readable, kinds-cut, length-kinds-cut, operands-cut}
 
--- ── One entry more ──────────────────────────────────────────────────────────────────────────────────────────────────────────
-
-pub machineAfter-more : (m : Machine) (es : List Entry) (e : Entry) → machineAfter m (es ++ (e ∷ [])) ≡ obey (machineAfter m es) e .machine
-machineAfter-more = after-more (λ m e. obey m e .machine)
-
-pub eachOf-more : {A : Type 0} (part : Done → A) (m : Machine) (es : List Entry) (e : Entry)
-    → eachOf part m (es ++ (e ∷ [])) ≡ eachOf part m es ++ (part (obey (machineAfter m es) e) ∷ [])
-eachOf-more part = each-more (λ m e. obey m e .machine) (λ m e. part (obey m e))
-
--- there are as many outcomes as entries
-pub length-outcomesOf : (m : Machine) (es : List Entry) → length (outcomesOf m es) ≡ length es
-length-outcomesOf = length-each (λ m e. obey m e .machine) (λ m e. obey m e .outcome)
+-- ── One outcome more ────────────────────────────────────────────────────────────────────────────────────────────────────────
 
 pub tallyOf-more : (os : List Outcome) (o : Outcome) → tallyOf (os ++ (o ∷ [])) ≡ counted (tallyOf os) o
 tallyOf-more os o = from noneCounted os
@@ -78,9 +66,6 @@ module _ (s : Sizes) (kinds operands : List ℕ) where
   -- there are as many entries as places
   pub length-entriesUpTo : (n : ℕ) → length (entriesUpTo s kinds operands n) ≡ n
   length-entriesUpTo n = length-map (range n) obeyed-at ∙ length-range n
-
-  pub length-outcomesFrom : length (outcomesFrom s kinds operands) ≡ length kinds
-  length-outcomesFrom = length-outcomesOf (fresh s) (entriesOf s kinds operands) ∙ length-entriesUpTo (length kinds)
 
   -- .. each the one to obey at its place
   pub entry-there : (at : ℕ) → at < length kinds → getD (entriesOf s kinds operands) at Drain ≡ entryToObey (entryAt s kinds operands at)
@@ -110,8 +95,7 @@ module _ (s : Sizes) (kinds operands : List ℕ) where
           let past = List·getD-eq-default (entriesOf s kinds operands) Drain {n = at} (omega (arith, ltb-false at (length kinds) p, length-entriesUpTo (length kinds))) in
           omega (arith, ap partyNumber past)
 
--- an accepted file has as many entries as it says, and as many outcomes
-
+-- an accepted file has as many entries as it says
 pub schedule-length : (file : List ℕ) (s : Sizes) (n : ℕ) → readFile file ≡ Accepted s n → length (scheduleIn file) ≡ n
 schedule-length file s n accepted =
     let kinds = kindsIn (entriesIn file) file in
@@ -119,8 +103,16 @@ schedule-length file s n accepted =
     ∙ length-kindsIn (entriesIn file) file
     ∙ sym (accepted-readable file s n accepted .1 .0)
 
-pub outcomes-counted : (file : List ℕ) (s : Sizes) (n : ℕ) → readFile file ≡ Accepted s n → length (outcomesIn file) ≡ n
-outcomes-counted file s n accepted = length-outcomesOf (fresh (sizesIn file)) (scheduleIn file) ∙ schedule-length file s n accepted
+-- there are as many outcomes as entries: from any machine, of two arrays, and of an accepted file
+module _ {M : Type 0} (b : Implementation M Entry) where
+  pub length-outcomesOf : (m : M) (es : List Entry) → length (outcomesOf b m es) ≡ length es
+  length-outcomesOf = length-each (b .next) (b .outcome)
+
+  pub length-outcomesFrom : (s : Sizes) (kinds operands : List ℕ) → length (outcomesFromBy b s kinds operands) ≡ length kinds
+  length-outcomesFrom s kinds operands = length-outcomesOf (b .fresh s) (entriesOf s kinds operands) ∙ length-entriesUpTo s kinds operands (length kinds)
+
+  pub outcomes-counted : (file : List ℕ) (s : Sizes) (n : ℕ) → readFile file ≡ Accepted s n → length (outcomesInBy b file) ≡ n
+  outcomes-counted file s n accepted = length-outcomesOf (b .fresh (sizesIn file)) (scheduleIn file) ∙ schedule-length file s n accepted
 
 -- ── Values fit four bytes ───────────────────────────────────────────────────────────────────────────────────────────────────
 
@@ -169,12 +161,6 @@ low-values : (os : List Outcome) → allBelow 4294967296 (map valueOf (map (renu
 low-values [] = refl
 low-values (o ∷ os) = rw (low-value o) (low-values os)
 
--- Where every number that is put fits four bytes, so does every value: the machine is blind to numbers.
-values-fit : (s : Sizes) (es : List Entry) → all fitting es ≡ true → allBelow 4294967296 (map valueOf (outcomesOf (fresh s) es)) ≡ true
-values-fit s es fits =
-    let same = ap (outcomesOf (fresh s)) (sym (low-entries es fits)) ∙ blind-to-numbers low refl s es in
-    ap (λ os. allBelow 4294967296 (map valueOf os)) same ∙ low-values (outcomesOf (fresh s) es)
-
 -- an entry whose operand fits puts no larger number
 operand-fits : (e : Entry) → ltb (operandOf e) 4294967296 ≡ true → fitting e ≡ true
 operand-fits Drain fits = refl
@@ -186,8 +172,8 @@ operand-fits (BeginSteal i) fits = refl
 operand-fits (ThiefStep i) fits = refl
 
 -- the entries of two arrays put no other numbers than the operands
-outcomes-fit : (s : Sizes) (kinds operands : List ℕ) → allBelow 4294967296 operands ≡ true → allBelow 4294967296 (map valueOf (outcomesFrom s kinds operands)) ≡ true
-outcomes-fit s kinds operands below = values-fit s (entriesOf s kinds operands) (each (range (length kinds)))
+entries-fit : (s : Sizes) (kinds operands : List ℕ) → allBelow 4294967296 operands ≡ true → all fitting (entriesOf s kinds operands) ≡ true
+entries-fit s kinds operands below = each (range (length kinds))
   where
     meant : (at : ℕ) (m : Meaning) → entryOf (s .thieves) at (getD kinds at 0) (getD operands at 0) ≡ m → fitting (entryToObey m) ≡ true
     meant at (Allowed e) p =
@@ -200,39 +186,51 @@ outcomes-fit s kinds operands below = values-fit s (entriesOf s kinds operands) 
     each (at ∷ l) =
         rw (either (λ m. fitting (entryToObey m) ≡ true) (ltb at (length kinds) && ltb at (length operands)) (meant at _ refl) refl) (each l)
 
--- Every value of a run fits, since the operands have four bytes: that of two parts, and so that of a file.
+module _ {M : Type 0} (b : Implementation M Entry) (proved : Proved b) where
+  -- Where every number that is put fits four bytes, so does every value: the machine is blind to numbers.
+  values-fit : (s : Sizes) (es : List Entry) → all fitting es ≡ true → allBelow 4294967296 (map valueOf (outcomesOf b (b .fresh s) es)) ≡ true
+  values-fit s es fits =
+      let same = ap (outcomesOf b (b .fresh s)) (sym (low-entries es fits)) ∙ proved .blind low refl s es in
+      ap (λ os. allBelow 4294967296 (map valueOf os)) same ∙ low-values (outcomesOf b (b .fresh s) es)
 
-pub parts-values-fit : (s : Sizes) (kinds bytes : List ℕ) → allBelow 256 bytes ≡ true → allBelow 4294967296 (map valueOf (outcomesFrom s kinds (wordsIn bytes))) ≡ true
-parts-values-fit s kinds bytes below = outcomes-fit s kinds (wordsIn bytes) (decode-below (length bytes / 4) 4 bytes below)
+  outcomes-fit : (s : Sizes) (kinds operands : List ℕ) → allBelow 4294967296 operands ≡ true → allBelow 4294967296 (map valueOf (outcomesFromBy b s kinds operands)) ≡ true
+  outcomes-fit s kinds operands below = values-fit s (entriesOf s kinds operands) (entries-fit s kinds operands below)
 
-pub file-values-fit : (file : List ℕ) → allBelow 256 file ≡ true → allBelow 4294967296 (map valueOf (outcomesIn file)) ≡ true
-file-values-fit file bytes =
-    let n = entriesIn file in
-    outcomes-fit (sizesIn file) (kindsIn n file) (operandsIn n file)
-    (ap (allBelow 4294967296) (operandsIn-words n file) ∙ decode-below n 4 (drop (28 + n) file) (allBelow-drop 256 (28 + n) file bytes))
+  -- Every value of a run fits, since the operands have four bytes: that of two parts, and so that of a file.
+
+  pub parts-values-fit : (s : Sizes) (kinds bytes : List ℕ) → allBelow 256 bytes ≡ true → allBelow 4294967296 (map valueOf (outcomesFromBy b s kinds (wordsIn bytes))) ≡ true
+  parts-values-fit s kinds bytes below = outcomes-fit s kinds (wordsIn bytes) (decode-below (length bytes / 4) 4 bytes below)
+
+  pub file-values-fit : (file : List ℕ) → allBelow 256 file ≡ true → allBelow 4294967296 (map valueOf (outcomesInBy b file)) ≡ true
+  file-values-fit file bytes =
+      let n = entriesIn file in
+      outcomes-fit (sizesIn file) (kindsIn n file) (operandsIn n file)
+      (ap (allBelow 4294967296) (operandsIn-words n file) ∙ decode-below n 4 (drop (28 + n) file) (allBelow-drop 256 (28 + n) file bytes))
 
 -- so the line of each entry, in the trace of two arrays that was written over a buffer, is that of its outcome
-pub line-there : (s : Sizes) (kinds operands l : List ℕ) → allBelow 4294967296 (map valueOf (outcomesFrom s kinds operands)) ≡ true → (at : ℕ) → at < length kinds
-    → lineIn (length kinds) (overwritten 0 (traceOf (outcomesFrom s kinds operands)) l) at ≡ lineOf (getD (outcomesFrom s kinds operands) at Moved)
-line-there s kinds operands l fit at there =
-    let os = outcomesFrom s kinds operands in
-    ap (λ n. lineIn n (overwritten 0 (traceOf os) l) at) (sym (length-outcomesFrom s kinds operands))
-    ∙ lineIn-written os l at fit (omega (arith, length-outcomesFrom s kinds operands))
+pub line-there : {M : Type 0} (b : Implementation M Entry) (s : Sizes) (kinds operands l : List ℕ)
+    → allBelow 4294967296 (map valueOf (outcomesFromBy b s kinds operands)) ≡ true → (at : ℕ) → at < length kinds
+    → lineIn (length kinds) (overwritten 0 (traceOf (outcomesFromBy b s kinds operands)) l) at ≡ lineOf (getD (outcomesFromBy b s kinds operands) at Moved)
+line-there b s kinds operands l fit at there =
+    let os = outcomesFromBy b s kinds operands in
+    ap (λ n. lineIn n (overwritten 0 (traceOf os) l) at) (sym (length-outcomesFrom b s kinds operands))
+    ∙ lineIn-written os l at fit (omega (arith, length-outcomesFrom b s kinds operands))
 
 -- ── The parts of an accepted file ───────────────────────────────────────────────────────────────────────────────────────────
 
 -- what the sizes and the two parts of an accepted file are, for whoever obeys them
-pub record PartsOf (file : List ℕ) (s : Sizes) (kinds operands : List ℕ) (n : ℕ) : Type 0 where
+pub record PartsOf {M : Type 0} (b : Implementation M Entry) (file : List ℕ) (s : Sizes) (kinds operands : List ℕ) (n : ℕ) : Type 0 where
   pub ranged : sizesInRange s ≡ true
   pub few : n ≤ 4096
   pub many : length kinds ≡ n
   pub allowed : checkEntries s kinds (wordsIn operands) ≡ Passed
   pub entries : entriesOf s kinds (wordsIn operands) ≡ scheduleIn file
-  pub outcomes : outcomesFrom s kinds (wordsIn operands) ≡ outcomesIn file
-  pub summary : summaryFrom s kinds (wordsIn operands) ≡ summaryIn file
+  pub outcomes : outcomesFromBy b s kinds (wordsIn operands) ≡ outcomesInBy b file
+  pub summary : summaryFromBy b s kinds (wordsIn operands) ≡ summaryInBy b file
 
-pub parts-obeyed : (file : List ℕ) (s : Sizes) (n : ℕ) → readFile file ≡ Accepted s n → PartsOf file s (kindPart file (Accepted s n)) (operandPart file (Accepted s n)) n
-parts-obeyed file s n accepted =
+pub parts-obeyed : {M : Type 0} (b : Implementation M Entry) (file : List ℕ) (s : Sizes) (n : ℕ) → readFile file ≡ Accepted s n
+    → PartsOf b file s (kindPart file (Accepted s n)) (operandPart file (Accepted s n)) n
+parts-obeyed b file s n accepted =
     let read = accepted-readable file s n accepted in
     let same = read .0 in
     let count = read .1 .0 in
@@ -246,8 +244,8 @@ parts-obeyed file s n accepted =
       many = length-kinds-cut file s n whole;
       allowed = (λ i. checkEntries s (kinds i) (operands i)) ∙ (λ i. checkEntries (same i) (kindsIn (count i) file) (operandsIn (count i) file)) ∙ read .1 .1 .each;
       entries = entries;
-      outcomes = (λ i. outcomesOf (fresh s) (entries i)) ∙ ap (λ t. outcomesOf (fresh t) (scheduleIn file)) same;
-      summary = (λ i. summaryOf (fresh s) (entries i)) ∙ ap (λ t. summaryOf (fresh t) (scheduleIn file)) same;
+      outcomes = (λ i. outcomesOf b (b .fresh s) (entries i)) ∙ ap (λ t. outcomesOf b (b .fresh t) (scheduleIn file)) same;
+      summary = (λ i. summaryBy b (b .fresh s) (entries i)) ∙ ap (λ t. summaryBy b (b .fresh t) (scheduleIn file)) same;
     }
 
 -- ── What decides a run ──────────────────────────────────────────────────────────────────────────────────────────────────────
@@ -256,36 +254,36 @@ parts-obeyed file s n accepted =
 pub not-both-run : {t : Summary} {r : Refusal} → running.Refused r ≡ Ran t → ⊥
 not-both-run e = let clash : _≡_ {A = ℕ} 0 1 = cc in omega arith
 
-module _ (file : List ℕ) (room : ℕ) where
-  pub run-refused : (r : Refusal) → readFile file ≡ reading.Refused r → runFile file room ≡ running.Refused r
-  run-refused r told = ap (runningOf file room) told
+module _ {M : Type 0} (b : Implementation M Entry) (file : List ℕ) (room : ℕ) where
+  pub run-refused : (r : Refusal) → readFile file ≡ reading.Refused r → runFileBy b file room ≡ running.Refused r
+  run-refused r told = ap (runningBy b file room) told
 
   module _ (s : Sizes) (n : ℕ) (told : readFile file ≡ Accepted s n) where
-    pub run-without-room : room < traceLength n → runFile file room ≡ running.Refused Room
-    run-without-room small = ap (runningOf file room) told ∙ by-test (running.Refused Room) (Ran (summaryIn file)) (lt-ltb room (traceLength n) small)
+    pub run-without-room : room < traceLength n → runFileBy b file room ≡ running.Refused Room
+    run-without-room small = ap (runningBy b file room) told ∙ by-test (running.Refused Room) (Ran (summaryInBy b file)) (lt-ltb room (traceLength n) small)
 
-    pub run-with-room : traceLength n ≤ room → runFile file room ≡ Ran (summaryIn file)
-    run-with-room fits = ap (runningOf file room) told ∙ by-test (running.Refused Room) (Ran (summaryIn file)) (le-ltb room (traceLength n) fits)
+    pub run-with-room : traceLength n ≤ room → runFileBy b file room ≡ Ran (summaryInBy b file)
+    run-with-room fits = ap (runningBy b file room) told ∙ by-test (running.Refused Room) (Ran (summaryInBy b file)) (le-ltb room (traceLength n) fits)
 
--- what was run was accepted
-pub ran-accepted : (file : List ℕ) (room : ℕ) (t : Summary) → runFile file room ≡ Ran t → readFile file ≡ Accepted (sizesIn file) (entriesIn file)
-ran-accepted file room t e = go (readFile file) refl e
-  where
-    go : (r : Reading) → readFile file ≡ r → runningOf file room r ≡ Ran t → readFile file ≡ Accepted (sizesIn file) (entriesIn file)
-    go (Accepted s n) read ran = let known = accepted-readable file s n read in read ∙ (λ i. Accepted (known .0 i) (known .1 .0 i))
-    go (reading.Refused r) read ran = absurd (not-both-run ran)
+  -- what was run was accepted
+  pub ran-accepted : (t : Summary) → runFileBy b file room ≡ Ran t → readFile file ≡ Accepted (sizesIn file) (entriesIn file)
+  ran-accepted t e = go (readFile file) refl e
+    where
+      go : (r : Reading) → readFile file ≡ r → runningBy b file room r ≡ Ran t → readFile file ≡ Accepted (sizesIn file) (entriesIn file)
+      go (Accepted s n) read ran = let known = accepted-readable file s n read in read ∙ (λ i. Accepted (known .0 i) (known .1 .0 i))
+      go (reading.Refused r) read ran = absurd (not-both-run ran)
 
--- .. and what is told of it is told of the file's entries
-pub ran-summary : (file : List ℕ) (room : ℕ) (t : Summary) → runFile file room ≡ Ran t → summaryIn file ≡ t
-ran-summary file room t e = go (readFile file) e
-  where
-    summary-of : Running → Summary
-    summary-of (Ran t) = t
-    summary-of (running.Refused r) = summaryIn file
+  -- .. and what is told of it is told of the file's entries
+  pub ran-summary : (t : Summary) → runFileBy b file room ≡ Ran t → summaryInBy b file ≡ t
+  ran-summary t e = go (readFile file) e
+    where
+      summary-of : Running → Summary
+      summary-of (Ran t) = t
+      summary-of (running.Refused r) = summaryInBy b file
 
-    go : (r : Reading) → runningOf file room r ≡ Ran t → summaryIn file ≡ t
-    go (Accepted s n) ran = sym (either (λ r. summary-of r ≡ summaryIn file) (ltb room (traceLength n)) refl refl) ∙ ap summary-of ran
-    go (reading.Refused r) ran = ap summary-of ran
+      go : (r : Reading) → runningBy b file room r ≡ Ran t → summaryInBy b file ≡ t
+      go (Accepted s n) ran = sym (either (λ r. summary-of r ≡ summaryInBy b file) (ltb room (traceLength n)) refl refl) ∙ ap summary-of ran
+      go (reading.Refused r) ran = ap summary-of ran
 
 -- ── A trace that fits ───────────────────────────────────────────────────────────────────────────────────────────────────────
 
@@ -313,7 +311,7 @@ pub trace-put : (os : List Outcome) (buffer : List ℕ) → traceFits (length os
 trace-put os buffer fits = by-test _ _ fits
 
 -- .. as that of two arrays, of at most 4,096 entries, does in the longest trace
-pub longest-put : (s : Sizes) (kinds operands : List ℕ) → length kinds ≤ 4096
-    → tracePut (outcomesFrom s kinds operands) (replicate 20484 0) ≡ overwritten 0 (traceOf (outcomesFrom s kinds operands)) (replicate 20484 0)
-longest-put s kinds operands few =
-    trace-put (outcomesFrom s kinds operands) (replicate 20484 0) (longest-fits (length (outcomesFrom s kinds operands)) (omega (arith, length-outcomesFrom s kinds operands)))
+pub longest-put : {M : Type 0} (b : Implementation M Entry) (s : Sizes) (kinds operands : List ℕ) → length kinds ≤ 4096
+    → tracePut (outcomesFromBy b s kinds operands) (replicate 20484 0) ≡ overwritten 0 (traceOf (outcomesFromBy b s kinds operands)) (replicate 20484 0)
+longest-put b s kinds operands few =
+    trace-put (outcomesFromBy b s kinds operands) (replicate 20484 0) (longest-fits (length (outcomesFromBy b s kinds operands)) (omega (arith, length-outcomesFrom b s kinds operands)))

@@ -166,7 +166,7 @@ module _ (s : Sizes) (es : List Entry) (count : ℕ) (ranged : sizesInRange s �
   given-more at k there task =
       omega (
         arith,
-        ap (λ t. occurrences k (concatMap taskIn t)) (take-suc os at Moved (omega (arith, length-outcomesOf (fresh s) es))),
+        ap (λ t. occurrences k (concatMap taskIn t)) (take-suc os at Moved (omega (arith, length-outcomesOf ffThe (fresh s) es))),
         adds-concatMap (adds-occurrences k) taskIn .append (take at os) (getD os at Moved ∷ []),
         ap (λ o. occurrences k (concatMap taskIn (o ∷ []))) task,
         by-test {A = ℕ} 1 0 (eq-eqb k k refl),
@@ -209,7 +209,7 @@ module _ (s : Sizes) (es : List Entry) (count : ℕ) (ranged : sizesInRange s �
       }
     where
       inside : (at : ℕ) → at < length os → at < length es
-      inside at there = omega (arith, length-outcomesOf (fresh s) es)
+      inside at there = omega (arith, length-outcomesOf ffThe (fresh s) es)
 
   -- so every value fits four bytes
   pub block-values-fit : count ≤ 255 → allBelow 4294967296 (map valueOf os) ≡ true
@@ -217,7 +217,7 @@ module _ (s : Sizes) (es : List Entry) (count : ℕ) (ranged : sizesInRange s �
     where
       number : (at k : ℕ) (inside : Bool) → ltb at (length os) ≡ inside → getD os at Moved ≡ Task k → k < 4294967296
       number at k true e task =
-          let there : at < length es = omega (arith, ltb-true at (length os) e, length-outcomesOf (fresh s) es) in
+          let there : at < length es = omega (arith, ltb-true at (length os) e, length-outcomesOf ffThe (fresh s) es) in
           omega (arith, within-bounds 1 count k (task-is-block at k there task) .1)
       number at k false e task =
           let past : Moved ≡ Task k = sym (List·getD-eq-default os Moved (ltb-false at (length os) e)) ∙ task in

@@ -9,6 +9,7 @@ use native.Mathlib.Omega.{arith}
 use lib.Dec.{eqb}
 use lib.ListN.{length, getD, replicate, set}
 use borrow.Author.Tests.{eq-eqb, eqb-false, eqb-true, le-leb, ne-eqb}
+use Rattle.machine.specs.Linearizable.{ffThe}
 use Rattle.terms.specs.Kinds.{partyNumber}
 use Rattle.terms.specs.Lists.{concatMap, range, rangeFrom}
 use Rattle.terms.specs.Outcome.{numberOf, valueOf}
@@ -189,7 +190,7 @@ module _ (s : Sizes) (kinds operands trace : List ℕ) (is : TraceOf (length kin
       → within 1 count value ≡ true
   block-read count number value once told block task =
       subst (λ v. within 1 count v ≡ true) (sym block)
-      (once .block at (valueOf here-read) (omega (arith, length-outcomesFrom s kinds operands))
+      (once .block at (valueOf here-read) (omega (arith, length-outcomesFrom ffThe s kinds operands))
       (λ i. eq-eqb (numberOf here-read) 17 (sym told ∙ task) i && eq-eqb (valueOf here-read) (valueOf here-read) refl i))
 
 -- the trace of a run, written over a buffer that has room for it
@@ -197,5 +198,5 @@ pub trace-of : (s : Sizes) (kinds operands l : List ℕ) → allBelow 4294967296
     → TraceOf (length kinds) (outcomesFrom s kinds operands) (overwritten 0 (traceOf (outcomesFrom s kinds operands)) l)
 trace-of s kinds operands l fit room =
     let os = outcomesFrom s kinds operands in
-    let long = length-overwritten 0 (traceOf os) l (omega (arith, length-traceOf os, length-outcomesFrom s kinds operands)) in
-    record { long = subst (λ n. traceLength (length kinds) ≤ n) (sym long) room; lines = λ at there. line-there s kinds operands l fit at there }
+    let long = length-overwritten 0 (traceOf os) l (omega (arith, length-traceOf os, length-outcomesFrom ffThe s kinds operands)) in
+    record { long = subst (λ n. traceLength (length kinds) ≤ n) (sym long) room; lines = λ at there. line-there ffThe s kinds operands l fit at there }

@@ -4,6 +4,7 @@ use Prim.Native.Nat.{_<_}
 use native.Mathlib.Omega.{arith}
 use borrow.Author.Needs.{needs}
 use lib.ListN.{length}
+use Rattle.machine.specs.Linearizable.{ffThe}
 use Rattle.terms.specs.Refusal.{placeOf}
 use Rattle.terms.proofs.Laws.Tests.{known}
 use Rattle.number.specs.Number.{overwritten}
@@ -42,7 +43,7 @@ put-run-requires c κs =
     let opened = cut .before .before in
     let asked = opened .before .before in
     let start = asked .before .before .before in
-    let parts = parts-obeyed (start .args .file .now) _ _ (known (asked .read .ensures .0) (opened .reading .given .1)) in
+    let parts = parts-obeyed ffThe (start .args .file .now) _ _ (known (asked .read .ensures .0) (opened .reading .given .1)) in
     (omega (arith, start .pre), omega (arith, ap length (cut .kind-part .ensures .0), parts .many, parts .few))
 
 returns-2 : tie.Need-returns-2
@@ -55,7 +56,7 @@ returns-2 c =
     let file = a .file .now in
     let s = opened .reading .given .0 .0 in
     let told = known (asked .read .ensures .0) (opened .reading .given .1) in
-    let parts = parts-obeyed file s (opened .reading .given .0 .1 .0) told in
+    let parts = parts-obeyed ffThe file s (opened .reading .given .0 .1 .0) told in
     let lines =
     (λ i.
     runLines s (outcomesFrom s (cut .before .kind-part .ensures .0 i) (wordsIn (cut .operand-part .ensures .0 i)))

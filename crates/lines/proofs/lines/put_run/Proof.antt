@@ -6,9 +6,11 @@ use native.Mathlib.Nat.{zero-add}
 use native.Mathlib.Omega.{arith}
 use borrow.Author.Needs.{needs}
 use lib.ListN.{length, replicate}
+use Rattle.machine.specs.Linearizable.{ffThe}
 use Rattle.schedule.specs.Format.{wordsIn}
 use Rattle.schedule.specs.Run.{outcomesFrom}
 use Rattle.schedule.proofs.Laws.Bytes.{each-below}
+use Rattle.schedule.proofs.FfThe.{ffThe-proved}
 use Rattle.schedule.proofs.Laws.Run.{fits-room, length-outcomesFrom, longest-fits, longest-put, parts-values-fit}
 use Rattle.lines.specs.FromTrace.{linesFromTrace}
 use Rattle.lines.specs.Lines.{lastLine, sizesLine}
@@ -48,8 +50,8 @@ returns c =
     let n = length (a .kinds .now) in
     let os = outcomesFrom (a .sizes) (a .kinds .now) (wordsIn (a .operands .now)) in
     let bytes = each-below 256 (a .operands .now) (λ i. omega (arith, known .shared-slice-known2 .given i)) in
-    let trace = ran .obey-entries .ensures .1 ∙ longest-put (a .sizes) (a .kinds .now) (wordsIn (a .operands .now)) (start .pre .1) in
-    let lines = ap (linesFromTrace n) trace ∙ trace-lines os (replicate 20484 0) n (length-outcomesFrom (a .sizes) (a .kinds .now) (wordsIn (a .operands .now))) (parts-values-fit (a .sizes) (a .kinds .now) (a .operands .now) bytes) in
+    let trace = ran .obey-entries .ensures .1 ∙ longest-put ffThe (a .sizes) (a .kinds .now) (wordsIn (a .operands .now)) (start .pre .1) in
+    let lines = ap (linesFromTrace n) trace ∙ trace-lines os (replicate 20484 0) n (length-outcomesFrom ffThe (a .sizes) (a .kinds .now) (wordsIn (a .operands .now))) (parts-values-fit ffThe ffThe-proved (a .sizes) (a .kinds .now) (a .operands .now) bytes) in
     let one : Put 0 (sizesLine (a .sizes)) text _ _ = record { there = put .put-sizes .ensures .1; ends = put .put-sizes .ensures .0 .0 ∙ sym (zero-add _) } in
     let two = put-more 0 (sizesLine (a .sizes)) (linesFromTrace n (ran .obey-entries .last .1 .1 .1 .0)) text (omega arith) one (entries .put-entries .ensures .0 .0) (entries .put-entries .ensures .1) in
     let three = put-more 0 (sizesLine (a .sizes) ++ linesFromTrace n (ran .obey-entries .last .1 .1 .1 .0)) (lastLine (ran .obey-entries .result)) text (omega arith) two (last .put-summary .ensures .0 .0) (last .put-summary .ensures .1) in

@@ -4,12 +4,14 @@ use native.Mathlib.Omega.{arith}
 use borrow.Author.Needs.{needs}
 use lib.ListN.{length}
 use Rattle.terms.proofs.Laws.Tests.{denied, granted, known}
+use Rattle.machine.specs.Linearizable.{ffThe}
 use Rattle.schedule.specs.Types.{Ran}
 use Rattle.schedule.specs.Format.{wordsIn}
 use Rattle.schedule.specs.declared.runner.Running.the-variants as running
 use Rattle.schedule.specs.Reader.{refusalOf}
 use Rattle.schedule.specs.Run.{outcomesFrom, outcomesIn, summaryFrom, traceIf, tracePut}
 use Rattle.schedule.specs.Trace.{traceFits, traceOf}
+use Rattle.schedule.proofs.FfThe.{ffThe-proved}
 use Rattle.schedule.proofs.Promises.{run-promises}
 use Rattle.schedule.proofs.Laws.Bytes.{each-below}
 use Rattle.schedule.proofs.Laws.Run.{fits-not, fits-room, outcomes-counted, parts-obeyed, run-refused, run-without-room, run-with-room, trace-put}
@@ -22,8 +24,8 @@ returns c =
     let a = asked .before .before .before .args in
     let bytes = each-below 256 (a .file .now) (λ i. omega (arith, asked .before .before .shared-slice-known .given i)) in
     let told = known (asked .read .ensures .0) (c .before .enum-told .given .1) in
-    let refused = run-refused (a .file .now) (length (a .trace .now)) _ told in
-    run-promises (a .file .now) (a .trace .now) bytes _ _
+    let refused = run-refused ffThe (a .file .now) (length (a .trace .now)) _ told in
+    run-promises ffThe ffThe-proved (a .file .now) (a .trace .now) bytes _ _
     (ap running.Refused (c .refusal-of .ensures ∙ ap refusalOf (asked .read .ensures .0 ∙ told)) ∙ sym refused)
     (sym (ap (traceIf (traceOf (outcomesIn (a .file .now))) (a .trace .now)) refused))
 
@@ -34,9 +36,9 @@ returns-2 c =
     let a = asked .before .before .before .args in
     let bytes = each-below 256 (a .file .now) (λ i. omega (arith, asked .before .before .shared-slice-known .given i)) in
     let told = known (asked .read .ensures .0) (opened .reading .given .1) in
-    let small = fits-not _ (length (a .trace .now)) (parts-obeyed (a .file .now) _ _ told .few) (denied (c .before .trace-fits .ensures) (c .if1 .taken)) in
-    let refused = run-without-room (a .file .now) (length (a .trace .now)) _ _ told small in
-    run-promises (a .file .now) (a .trace .now) bytes _ _ (sym refused) (sym (ap (traceIf (traceOf (outcomesIn (a .file .now))) (a .trace .now)) refused))
+    let small = fits-not _ (length (a .trace .now)) (parts-obeyed ffThe (a .file .now) _ _ told .few) (denied (c .before .trace-fits .ensures) (c .if1 .taken)) in
+    let refused = run-without-room ffThe (a .file .now) (length (a .trace .now)) _ _ told small in
+    run-promises ffThe ffThe-proved (a .file .now) (a .trace .now) bytes _ _ (sym refused) (sym (ap (traceIf (traceOf (outcomesIn (a .file .now))) (a .trace .now)) refused))
 
 returns-3 : tie.Need-returns-3
 returns-3 c =
@@ -51,16 +53,16 @@ returns-3 c =
     let told = opened .reading .given .1 in
     let accepted = known (asked .read .ensures .0) told in
     let fits = granted (tested .trace-fits .ensures) (cut .before .before .if1 .left) in
-    let parts = parts-obeyed file _ _ accepted in
-    let went = run-with-room file (length (a .trace .now)) _ _ accepted (fits-room _ (length (a .trace .now)) fits) in
+    let parts = parts-obeyed ffThe file _ _ accepted in
+    let went = run-with-room ffThe file (length (a .trace .now)) _ _ accepted (fits-room _ (length (a .trace .now)) fits) in
     let summary =
     (λ i. summaryFrom (opened .reading .given .0 .0) (cut .before .kind-part .ensures .0 i) (wordsIn (cut .operand-part .ensures .0 i)))
     ∙ parts .summary in
     let outcomes =
     (λ i. outcomesFrom (opened .reading .given .0 .0) (cut .before .kind-part .ensures .0 i) (wordsIn (cut .operand-part .ensures .0 i)))
     ∙ parts .outcomes in
-    let as-many = ap (λ n. traceFits n (length (a .trace .now))) (outcomes-counted file _ _ accepted) ∙ fits in
-    run-promises file (a .trace .now) bytes _ _
+    let as-many = ap (λ n. traceFits n (length (a .trace .now))) (outcomes-counted ffThe file _ _ accepted) ∙ fits in
+    run-promises ffThe ffThe-proved file (a .trace .now) bytes _ _
     (ap Ran (ran .obey-entries .ensures .0 ∙ summary) ∙ sym went)
     (ran .obey-entries .ensures .1
     ∙ ap (λ os. tracePut os (a .trace .now)) outcomes

@@ -6,6 +6,7 @@ use Prim.Native.Nat.{_+_, _-_, _*_, _≤_, _<_}
 use native.Mathlib.Omega.{arith}
 use borrow.Author.Needs.{needs}
 use lib.ListN.{length, length-replicate}
+use Rattle.machine.specs.Linearizable.{ffThe}
 use Rattle.terms.specs.Kinds.{partyNumber}
 use Rattle.terms.specs.Sizes.{within}
 use Rattle.schedule.specs.Format.{wordsIn}
@@ -96,7 +97,7 @@ loop-again c =
     let number = number-read (a .sizes) (a .kinds .now) operands (a .trace .now) (start .pre .1 .0) at there in
     let block = value .word-at .ensures ∙ value-read (a .sizes) (a .kinds .now) operands (a .trace .now) (start .pre .1 .0) at there in
     let party = told .party .ensures ∙ ap partyNumber (asked .entry-at .ensures ∙ sym (entry-there (a .sizes) (a .kinds .now) operands at there)) in
-    let inside : at < length os = omega (arith, length-outcomesFrom (a .sizes) (a .kinds .now) operands) in (
+    let inside : at < length os = omega (arith, length-outcomesFrom ffThe (a .sizes) (a .kinds .now) operands) in (
       put .note-outcome .ensures .0 ∙ (λ i. noted (number i) (block i) (party i) (turn .loop .inv .0 i)) ∙ noted-more es os count (start .pre .1 .1 .1) (λ h. h .party) at inside,
       put .note-outcome .ensures .1 ∙ (λ i. noted (number i) (block i) at (turn .loop .inv .1 i)) ∙ noted-more es os count (start .pre .1 .1 .1) (λ h. h .entry) at inside,
       put .note-outcome .kept .0 ∙ turn .loop .inv .2,
@@ -116,7 +117,7 @@ returns c =
     let es = entriesOf (a .sizes) (a .kinds .now) operands in
     let os = outcomesFrom (a .sizes) (a .kinds .now) operands in
     let count = length (a .parties .now) in
-    let end : turn .loop .at ≡ length os = omega (arith, length-outcomesFrom (a .sizes) (a .kinds .now) operands, turn .loop .inv .4, c .loop-test .left) in (
+    let end : turn .loop .at ≡ length os = omega (arith, length-outcomesFrom ffThe (a .sizes) (a .kinds .now) operands, turn .loop .inv .4, c .loop-test .left) in (
       turn .loop .inv .0 ∙ ap (λ at. map (λ b. shareThen es os at b .party) (blocks count)) end,
       turn .loop .inv .1 ∙ ap (λ at. map (λ b. shareThen es os at b .entry) (blocks count)) end,
     )

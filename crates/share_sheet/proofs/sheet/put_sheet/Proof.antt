@@ -5,6 +5,7 @@ use native.Mathlib.Omega.{arith}
 use borrow.Author.Needs.{needs}
 use lib.ListN.{length, length-set, replicate, set, take}
 use lib.Seq.{length-take-le}
+use Rattle.machine.specs.Linearizable.{ffThe}
 use Rattle.terms.proofs.Laws.Sizes.{within-bounds}
 use Rattle.number.specs.Number.{bytesPut, wordBytes}
 use Rattle.schedule.specs.Format.{wordsIn}
@@ -50,7 +51,7 @@ note-shares-requires c κs =
     let few-entries = start .pre .0 .1 in
     let values = block-values-fit (a .sizes) es (a .count) (start .pre .0 .0) (fit start .enough) (short start) (fit start .right) (few start) in
     let room : traceLength n ≤ length zeros = fits-room n (length zeros) (longest-fits n few-entries) in
-    let trace = ran .obey-entries .ensures .1 ∙ longest-put (a .sizes) (a .kinds .now) operands few-entries in
+    let trace = ran .obey-entries .ensures .1 ∙ longest-put ffThe (a .sizes) (a .kinds .now) operands few-entries in
     let once = given-once (a .sizes) es (a .count) (start .pre .0 .0) (fit start .enough) (short start) (fit start .right) in (
       (refl, refl, few-entries),
       (subst (TraceOf n os) (sym trace) (trace-of (a .sizes) (a .kinds .now) operands zeros values room), (parties-small start, given-wider (a .count) 255 os (few start) once)),

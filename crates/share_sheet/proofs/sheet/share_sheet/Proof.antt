@@ -3,6 +3,7 @@ use mathlib.Core.Path.{_≡_, ap, subst, sym, _∙_}
 use native.Mathlib.Omega.{arith}
 use borrow.Author.Needs.{needs}
 use lib.ListN.{length}
+use Rattle.machine.specs.Linearizable.{ffThe}
 use Rattle.terms.proofs.Laws.Tests.{known}
 use Rattle.number.specs.Number.{overwritten}
 use Rattle.schedule.specs.Check.{first}
@@ -36,14 +37,14 @@ accepted c = let opened = c .before .before .before .before in known (opened .be
 parts : (c : tie.After-check-sheet)
     → let opened = c .before .before .before .before in
     let a = opened .before .before .before .before .before .args in
-    PartsOf (a .file .now) (opened .reading .given .0 .0) (c .before .before .kind-part .result .now) (c .before .operand-part .result .now) (opened .reading .given .0 .1 .0)
+    PartsOf ffThe (a .file .now) (opened .reading .given .0 .0) (c .before .before .kind-part .result .now) (c .before .operand-part .result .now) (opened .reading .given .0 .1 .0)
 parts c =
     let opened = c .before .before .before .before in
     let a = opened .before .before .before .before .before .args in
     let s = opened .reading .given .0 .0 in
     let n = opened .reading .given .0 .1 .0 in
-    subst (λ l. PartsOf (a .file .now) s l (c .before .operand-part .result .now) n) (sym (c .before .before .kind-part .ensures .0))
-    (subst (λ l. PartsOf (a .file .now) s (kindPart (a .file .now) (Accepted s n)) l n) (sym (c .before .operand-part .ensures .0)) (parts-obeyed (a .file .now) s n (accepted c)))
+    subst (λ l. PartsOf ffThe (a .file .now) s l (c .before .operand-part .result .now) n) (sym (c .before .before .kind-part .ensures .0))
+    (subst (λ l. PartsOf ffThe (a .file .now) s (kindPart (a .file .now) (Accepted s n)) l n) (sym (c .before .operand-part .ensures .0)) (parts-obeyed ffThe (a .file .now) s n (accepted c)))
 
 -- what the checks behind found decides
 decided : (c : tie.After-check-sheet)
