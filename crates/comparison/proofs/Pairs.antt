@@ -2,9 +2,10 @@
 use mathlib.Core.Path.{_≡_, refl}
 use mathlib.Core.Bool.{true}
 use Rattle.terms.specs.Lists.{all}
+use Rattle.stores.specs.Look.{memoryInRange}
 use Rattle.machine.specs.InRange.{inRange}
 use Rattle.comparison.specs.Pairs.{holds, pairs}
 
 pub pairs-hold : all holds pairs ≡ true
-unfolding inRange
+unfolding inRange memoryInRange
 pairs-hold = refl

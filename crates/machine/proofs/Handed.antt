@@ -2,14 +2,15 @@
 use mathlib.Core.Path.{_≡_, refl}
 use mathlib.Core.Bool.{true}
 use Rattle.terms.specs.Lists.{all}
+use Rattle.stores.specs.Look.{memoryInRange}
 use Rattle.machine.specs.InRange.{inRange}
 use Rattle.machine.specs.Stories.{rowHolds}
 use Rattle.machine.specs.Handed.{HandedBack, handedIn}
 
 pub handed-hold : all rowHolds handedIn ≡ true
-unfolding inRange
+unfolding inRange memoryInRange
 handed-hold = refl
 
 pub handed-back : HandedBack
-unfolding inRange
+unfolding inRange memoryInRange
 handed-back = (refl, refl)

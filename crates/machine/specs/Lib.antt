@@ -2,9 +2,11 @@
 -- start at the end: `Demand3` in `Linearizable` says what is claimed of a list of entries (what the claim is: `Linearizes`, of `claim`),
 -- `obey` in `Obey` what an entry does, `effectOf` in `Effect` where a call takes effect.
 --
--- sizes and margins, outcomes            Sizes, Outcome, of `terms`
+-- sizes and margins, outcomes, kinds     Sizes, Outcome, Kinds, of `terms`
 -- slots, pending stores                  Index, StoreBuffer, of `stores`
 -- whose stores keep takes apart          Spacing, of `stores`
+-- loads from a slot                      Load, of `stores`
+-- what must be in range, calls apart     Look, of `stores`
 -- the steps of put and take, of steal    Worker, Thief: the queue, which knows no machine
 -- a machine with a part replaced         Update
 -- what must be in range                  InRange

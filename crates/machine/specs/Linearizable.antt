@@ -5,16 +5,15 @@ use mathlib.Core.Path.{_≡_}
 use mathlib.Core.Bool.{true}
 use mathlib.Core.List.{List, [], _∷_, map}
 use Prim.Native.Nat.{ℕ, _-_, _≤_}
-use lib.IntN.{ℤ, pos, negsuc, _+ℤ_, _-ℤ_}
 use lib.ListN.{length}
 use Rattle.terms.specs.Sizes.{enoughMargin, sizesInRange}
-use Rattle.terms.specs.Lists.{range}
 use Rattle.claim.specs.PlainQueue.{Limits}
 use Rattle.claim.specs.Calls.{Party, worker, thief, begunBy, isStep, partyOf}
 use Rattle.claim.specs.Implementation.{Implementation}
 use Rattle.claim.specs.Watch.{watchFresh, watched}
 use Rattle.claim.specs.Linearizable.{Linearizable}
 use Rattle.stores.specs.Index.{next}
+use Rattle.stores.specs.Load.{loadedBetween}
 use Rattle.machine.specs.Types.{Entry, Holder, Nobody, TheWorker, TheThief, Index, Machine, Outcome, Task, Empty, Abort, Sizes, ThiefCall, StealLock, StealLoadHead, StealRaiseHead, StealLoadTail, StealLoadSlot, StealUnlockTask, StealRestoreHead, StealUnlockAbort, WorkerCall, PutLoadHead, PutStoreSlot, PutStoreTail, TakeStoreTail, TakeLoadHead, TakeLoadSlot, TakeLock, TakeReloadHead, TakeRestoreTail, TakeUnlockEmpty, TakeUnlockTask, TakeLoadLastSlot}
 use Rattle.machine.specs.Machine.{fresh, thiefCall, memoryLoad, workerLoad, workerTail}
 use Rattle.machine.specs.Obey.{machineAfter, obey}
@@ -56,18 +55,9 @@ owes m (thief i) = thiefOwes (Abort ∷ []) m (thiefCall m i)
 
 -- ── The tasks that stand ────────────────────────────────────────────────────────────────────────────────────────────────────
 
--- a difference of two indices as a number of steps up, which is none where it is negative
-abbrev pub stepsUp : ℤ → ℕ
-stepsUp (pos n) = n
-stepsUp (negsuc n) = 0
-
--- the worker's loads from the slots of an index up to, and without, another
-abbrev pub loadedBetween : Machine → Index → Index → List ℕ
-loadedBetween m from to = map (λ k. workerLoad m (record { at = from .at +ℤ pos k })) (range (stepsUp (to .at -ℤ from .at)))
-
--- where no call runs: from head up to the worker's tail − 1
+-- where no call runs: the worker's loads from head up to its tail − 1
 abbrev pub standingInSlots : Machine → List ℕ
-standingInSlots m = loadedBetween m (m .head) (workerTail m)
+standingInSlots m = loadedBetween (workerLoad m) (m .head) (workerTail m)
 
 -- While calls run: a steal that has raised head above h, and has not got the task there, leaves it standing ..
 abbrev pub headBefore : Index → ThiefCall → Index
@@ -105,7 +95,7 @@ callInside m (TheThief i) = thiefCall m i
 
 -- the numbers of the tasks that stand, at any moment
 abbrev pub standingNow : Machine → List ℕ
-standingNow m = loadedBetween m (headBefore (m .head) (callInside m (m .lock .holder))) (tailBefore (workerTail m) (m .worker .call))
+standingNow m = loadedBetween (workerLoad m) (headBefore (m .head) (callInside m (m .lock .holder))) (tailBefore (workerTail m) (m .worker .call))
 
 -- ── The claim ───────────────────────────────────────────────────────────────────────────────────────────────────────────────
 

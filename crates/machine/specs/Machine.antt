@@ -4,13 +4,15 @@ use mathlib.Core.Bool.{Bool, cond}
 use Prim.Native.Nat.{ℕ}
 use lib.Dec.{ltb, eqb}
 use lib.ListN.{getD, replicate}
-use Rattle.stores.specs.Index.{indexOf, slotOf}
+use Rattle.stores.specs.Index.{indexOf}
+use Rattle.stores.specs.Load as load
 use Rattle.stores.specs.Lock.{isNobody}
+use Rattle.stores.specs.Look.{hiddenIf, lookAt}
 use Rattle.stores.specs.Spacing.{noTake}
-use Rattle.stores.specs.StoreBuffer.{emptyBuffer, newestInSlot, newestTail, pending, takeStores}
+use Rattle.stores.specs.StoreBuffer.{emptyBuffer, newestTail, pending, takeStores}
 use Rattle.machine.specs.Types.{Done, Nobody, Index, Load, NoSlot, SlotOf, Look, Machine, Outcome, Wait, Sizes, ThiefCall, WorkerCall}
 use Rattle.machine.specs.Thief.{idleThief}
-use Rattle.machine.specs.InRange.{inRange}
+use Rattle.machine.specs.InRange.{callsInRange, inRange}
 
 -- ── At first ────────────────────────────────────────────────────────────────────────────────────────────────────────────────
 
@@ -41,11 +43,11 @@ thiefTail m = m .tail
 
 -- .. and what lies in the slot of an index
 abbrev pub memoryLoad : Machine → Index → ℕ
-memoryLoad m i = getD (m .slots) (slotOf (m .sizes .slots) i) 0
+memoryLoad m i = load.memoryLoad (m .sizes .slots) (m .slots) i
 
 -- what the worker loads from the slot of an index
 abbrev pub workerLoad : Machine → Index → ℕ
-workerLoad m i = newestInSlot (m .sizes .slots) (slotOf (m .sizes .slots) i) (memoryLoad m i) (m .buffer)
+workerLoad m i = load.workerLoad (m .sizes .slots) (m .slots) (m .buffer) i
 
 -- what a step loads: 0 where it loads from no slot
 abbrev pub memoryLoads : Machine → Load → ℕ
@@ -79,15 +81,12 @@ abbrev pub takesPending : Machine → ℕ
 takesPending m = takeStores (m .tail) (pending (m .buffer))
 
 -- .. as it is handed on: 0 for a machine out of range
-abbrev pub hiddenIf : Bool → ℕ → ℕ
-hiddenIf ranged takes = cond ranged takes 0
-
 abbrev pub hidden : Machine → ℕ
 hidden m = hiddenIf (inRange m) (takesPending m)
 
 -- what one look at a machine finds, with which every operation begins; for the code alone
 abbrev pub look : Machine → Look
-look m = record { ranged = inRange m; tail = workerTail m; hidden = hidden m }
+look m = lookAt (m .sizes) (m .head) (m .tail) (m .buffer) (m .spacing) (callsInRange m)
 
 -- ── What an operation hands back ────────────────────────────────────────────────────────────────────────────────────────────
 

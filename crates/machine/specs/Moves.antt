@@ -1,9 +1,7 @@
 -- An entry of the worker's or of a thief's as a move, like the steps of `Worker` and `Thief`; for the code alone, which decides every entry of a party in one place. What an entry does to the machine is said in `Entries` and
 -- `Perform`; that this comes to it is a law (`proofs/Laws/Moves.antt`). Entries of another party never get here; their lines stand because a definition has one for every entry.
 use mathlib.Core.Bool.{Bool, cond}
-use Prim.Native.Nat.{ℕ}
-use Rattle.stores.specs.Spacing.{countedInOrSame, takeBegins}
-use Rattle.machine.specs.Types.{Client, Entry, Drain, ClientStore, BeginPut, BeginTake, WorkerStep, BeginSteal, ThiefStep, One, TheClient, Moved, Place, Early, Wait, Push, Spacing, PutLoadHead, TakeStoreTail, StealLock, ThiefMove, ThiefView, WorkerMove, WorkerView}
+use Rattle.machine.specs.Types.{Client, Entry, Drain, ClientStore, BeginPut, BeginTake, WorkerStep, BeginSteal, ThiefStep, One, TheClient, Moved, Place, Early, Wait, PutLoadHead, TakeStoreTail, StealLock, ThiefMove, ThiefView, WorkerMove, WorkerView}
 use Rattle.machine.specs.Worker.{goesOn, stays, storing, workerMove, workerRuns}
 use Rattle.machine.specs.Thief.{goesOn as thiefGoesOn, stays as thiefStays, thiefMove, thiefRuns}
 
@@ -16,26 +14,6 @@ workerEntry early WorkerStep v = workerMove (v .call) v
 workerEntry early Drain v = stays Wait v
 workerEntry early (BeginSteal i) v = stays Wait v
 workerEntry early (ThiefStep i) v = stays Wait v
-
--- what the spacing rule goes by after it, if it was not refused
-abbrev pub spacingAfter : Entry → Push → Spacing → Spacing
-spacingAfter BeginTake p s = takeBegins
-spacingAfter ClientStore p s = countedInOrSame p s
-spacingAfter (BeginPut x) p s = countedInOrSame p s
-spacingAfter WorkerStep p s = countedInOrSame p s
-spacingAfter Drain p s = countedInOrSame p s
-spacingAfter (BeginSteal i) p s = countedInOrSame p s
-spacingAfter (ThiefStep i) p s = countedInOrSame p s
-
--- the thief that an entry names; the first, where it names none
-abbrev pub thiefOf : Entry → ℕ
-thiefOf Drain = 0
-thiefOf ClientStore = 0
-thiefOf (BeginPut x) = 0
-thiefOf BeginTake = 0
-thiefOf WorkerStep = 0
-thiefOf (BeginSteal i) = i
-thiefOf (ThiefStep i) = i
 
 -- an entry of a thief's, from what that thief sees
 abbrev pub thiefEntry : Entry → ThiefView → ThiefMove

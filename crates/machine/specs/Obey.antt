@@ -1,11 +1,11 @@
 -- An entry obeyed, and a list of them. Renders, of "Parts", what an operation does first, of "The numbers" the order in which one entry is
 -- refused, of "Demand 3's plain queue" how a list is run, and of request 4, in 02, for which machine a number is handed on.
 use mathlib.Core.Path.{_≡_}
-use mathlib.Core.Bool.{Bool, true, false, cond, _&&_}
+use mathlib.Core.Bool.{true, false, cond, _&&_}
 use mathlib.Core.List.{List}
 use Prim.Native.Nat.{ℕ, _≤_}
-use lib.Dec.{ltb}
 use lib.ListN.{length}
+use Rattle.terms.specs.Kinds.{thiefIsThere}
 use Rattle.terms.specs.Lists.{after, each}
 use Rattle.terms.specs.Outcome.{isRefusal}
 use Rattle.terms.specs.Sizes.{sizesInRange}
@@ -24,16 +24,6 @@ obeyInRange m BeginTake = beginTake m
 obeyInRange m WorkerStep = stepOfWorker m (m .worker .call)
 obeyInRange m (BeginSteal i) = beginSteal i m
 obeyInRange m (ThiefStep i) = stepOfThief i m (thiefCall m i)
-
--- the thief that the entry names, if it names one, is below the number of thieves
-abbrev pub thiefIsThere : Sizes → Entry → Bool
-thiefIsThere s Drain = true
-thiefIsThere s ClientStore = true
-thiefIsThere s (BeginPut x) = true
-thiefIsThere s BeginTake = true
-thiefIsThere s WorkerStep = true
-thiefIsThere s (BeginSteal i) = ltb i (s .thieves)
-thiefIsThere s (ThiefStep i) = ltb i (s .thieves)
 
 -- 7 comes first, where the machine is not in range or the entry's thief is not there; only otherwise is the entry obeyed
 abbrev pub obey : Machine → Entry → Done

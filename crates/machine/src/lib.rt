@@ -21,7 +21,7 @@
 //
 // - `moves`: every entry of a party as a move of it: its steps, its beginnings and the client store;
 // - `machine`: memory, lock, store buffer and calls together, at first, and what the parties load;
-// - `look`: what an operation has to know first, by one pass over the pending stores: whether all is in range, the
+// - `look`: what an operation has to know first (`Look`, of `stores`), with the calls: whether all is in range, the
 //   worker's tail, and how far memory lags;
 // - `obey`: what each party sees, how a move is performed, and the operations: `obey` for any entry, and one for each
 //   kind, which is `obey` of that kind.

@@ -9,13 +9,12 @@ use stores::Spacing;
 use stores::Store;
 use stores::StoreBuffer;
 use stores::StoreKind;
-use stores::slot_of;
+use stores::memory_load;
+use stores::worker_load;
 use terms::Outcome;
 use terms::Sizes;
 ghost use mathlib.Core.Path.{_≡_};
-ghost use mathlib.Core.Bool.{true};
-ghost use Rattle.machine.specs.InRange.{inRange};
-ghost use Rattle.machine.specs.Machine.{fresh, handing, memoryLoad, memoryLoads, thiefTail, workerLoad, workerLoads};
+ghost use Rattle.machine.specs.Machine.{fresh, handing, memoryLoads, thiefTail, workerLoads};
 
 // The worker.
 pub struct Worker {
@@ -61,47 +60,30 @@ impl Machine {
         self.tail // whatever is pending
     }
 
-    // What memory has in the slot of an index.
-    pub(crate) fn memory_load(self, index: Index) -> u32
-        requires { ⌜ inRange self ≡ true ⌝ }
-        ensures { λ r. ⌜ r ≡ memoryLoad self index ⌝ }
-    {
-        let slot = slot_of(index, self.sizes.slots);
-        let memory = self.slots;
-        memory[slot]
-    }
-
-    // What the worker loads from the slot of an index.
-    pub(crate) fn worker_load(self, index: Index) -> u32
-        requires { ⌜ inRange self ≡ true ⌝ }
-        ensures { λ r. ⌜ r ≡ workerLoad self index ⌝ }
-    {
-        let value = self.memory_load(index);
-        let slots = self.sizes.slots;
-        let slot = slot_of(index, slots);
-        let buffer = self.buffer;
-        buffer.newest_in_slot(slots, slot, value)
-    }
-
     // What a thief's step loads: 0 where it loads from no slot.
     pub(crate) fn memory_loads(self, load: Load) -> u32
-        requires { ⌜ inRange self ≡ true ⌝ }
         ensures { λ r. ⌜ r ≡ memoryLoads self load ⌝ }
     {
         match load {
-            Load::NoSlot => 0,
-            Load::SlotOf(index) => self.memory_load(index),
+            Load::NoSlot => return 0,
+            Load::SlotOf(index) => {
+                let memory = self.slots;
+                return memory_load(memory, self.sizes.slots, index);
+            }
         }
     }
 
     // What the worker's step loads: 0 where it loads from no slot.
     pub(crate) fn worker_loads(self, load: Load) -> u32
-        requires { ⌜ inRange self ≡ true ⌝ }
         ensures { λ r. ⌜ r ≡ workerLoads self load ⌝ }
     {
         match load {
-            Load::NoSlot => 0,
-            Load::SlotOf(index) => self.worker_load(index),
+            Load::NoSlot => return 0,
+            Load::SlotOf(index) => {
+                let memory = self.slots;
+                let buffer = self.buffer;
+                return worker_load(memory, buffer, self.sizes.slots, index);
+            }
         }
     }
 

@@ -8,12 +8,11 @@ use crate::worker::WorkerView;
 use crate::worker::worker_move;
 use stores::Maker;
 use stores::Push;
-use stores::Spacing;
 use stores::StoreKind;
 use terms::Entry;
 use terms::Outcome;
 ghost use mathlib.Core.Path.{_≡_};
-ghost use Rattle.machine.specs.Moves.{spacingAfter, thiefEntry, thiefOf, workerEntry};
+ghost use Rattle.machine.specs.Moves.{thiefEntry, workerEntry};
 ghost use Rattle.machine.specs.Thief.{ThiefViewInRange};
 ghost use Rattle.machine.specs.Worker.{WorkerViewInRange};
 
@@ -50,32 +49,6 @@ pub(crate) fn worker_entry(view: WorkerView, entry: Entry, early: bool) -> Worke
         Entry::Drain | Entry::BeginSteal(_) | Entry::ThiefStep(_) => return view.stays(
             Outcome::Wait,
         ),
-    }
-}
-
-// What the spacing rule goes by after an entry of the worker's that is not refused, with the store that it makes, if it makes one.
-pub(crate) fn spacing_after(spacing: Spacing, entry: Entry, made: Push) -> Spacing
-    ensures { λ r. ⌜ r ≡ spacingAfter entry made spacing ⌝ }
-{
-    if let Entry::BeginTake = entry {
-        Spacing::take_begins()
-    } else {
-        spacing.counted_in(made)
-    }
-}
-
-// The thief that an entry names; the first, which is always there, where it names none.
-pub(crate) fn thief_of(entry: Entry) -> u32
-    ensures { λ r. ⌜ r ≡ thiefOf entry ⌝ }
-{
-    match entry {
-        Entry::Drain
-        | Entry::ClientStore
-        | Entry::BeginPut(_)
-        | Entry::BeginTake
-        | Entry::WorkerStep => 0,
-        Entry::BeginSteal(beginner) => beginner,
-        Entry::ThiefStep(stepper) => stepper,
     }
 }
 

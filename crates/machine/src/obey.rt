@@ -1,11 +1,7 @@
-use crate::look::fewer_if;
-use crate::look::hidden_if;
 use crate::machine::Done;
 use crate::machine::Machine;
 use crate::machine::Worker;
-use crate::moves::spacing_after;
 use crate::moves::thief_entry;
-use crate::moves::thief_of;
 use crate::moves::worker_entry;
 use crate::thief::Thief;
 use crate::thief::ThiefCall;
@@ -22,24 +18,13 @@ use stores::StoreKind;
 use terms::Entry;
 use terms::Outcome;
 ghost use mathlib.Core.Path.{_≡_};
-ghost use mathlib.Core.Bool.{true};
 ghost use Prim.Native.Nat.{_<_};
-ghost use Rattle.terms.specs.Outcome.{isRefusal};
 ghost use Rattle.stores.specs.StoreBuffer.{pushedOrSame, slotsAfter};
-ghost use Rattle.machine.specs.InRange.{inRange};
 ghost use Rattle.machine.specs.Machine.{handing, thiefCall, workerTail};
 ghost use Rattle.machine.specs.Obey.{obey};
 ghost use Rattle.machine.specs.Perform.{performThief, thiefView, workerView};
 ghost use Rattle.machine.specs.Types.{BeginPut, BeginSteal, BeginTake, ClientStore, Drain, Moved, ThiefStep, WorkerStep};
 ghost use Rattle.machine.specs.Update.{withBuffer, withLock, withMemory, withSpacing, withWorker};
-
-// Whether an outcome is 5, 6 or 7: then the machine is handed back as it was.
-fn is_refusal(outcome: Outcome) -> bool
-    ensures { λ r. ⌜ r ≡ isRefusal outcome ⌝ }
-{
-    let number = outcome.number();
-    (5 <= number) & (number <= 7)
-}
 
 impl WorkerCall {
     // The same, case by case: an enum that is copied whole takes its padding along, through every step of an entry (`docs/ARCHITECTURE.md`, "Where a run's time goes").
@@ -68,7 +53,7 @@ impl WorkerCall {
 impl Machine {
     // What the worker sees, with its call and the tail that it loads.
     fn worker_view(self, call: WorkerCall, tail: Index) -> WorkerView
-        requires { ⌜ (inRange self ≡ true) × (call ≡ self .worker .call) × (tail ≡ workerTail self) ⌝ }
+        requires { ⌜ (call ≡ self .worker .call) × (tail ≡ workerTail self) ⌝ }
         ensures { λ r. ⌜ r ≡ workerView self (self .worker .call) ⌝ }
     {
         let head = self.head;
@@ -87,7 +72,7 @@ impl Machine {
 
     // What the thief with this number sees, with its call.
     fn thief_view(self, thief: u32, call: ThiefCall) -> ThiefView
-        requires { ⌜ (inRange self ≡ true) × (call ≡ thiefCall self thief) ⌝ }
+        requires { ⌜ call ≡ thiefCall self thief ⌝ }
         ensures { λ r. ⌜ r ≡ thiefView self thief (thiefCall self thief) ⌝ }
     {
         let head = self.head;
@@ -205,7 +190,7 @@ impl Machine {
         let call = held.copied();
         let thieves = self.thieves;
         let seen = self.look(call, thieves);
-        let thief = thief_of(entry);
+        let thief = entry.thief();
         if !(seen.ranged & (thief < sizes.thieves)) {
             return self.refused(Outcome::Wait, seen.hidden);
         }
@@ -221,7 +206,7 @@ impl Machine {
                 let oldest = dropped.oldest;
                 let kind = oldest.kind;
                 let left = dropped.left;
-                let hidden = fewer_if(kind.lowers_tail(tail), seen.hidden);
+                let hidden = seen.after_drain(tail, kind);
                 if let StoreKind::Slot(_, _) = kind {
                     return self.drained_to_slot(kind, left, hidden);
                 }
@@ -234,13 +219,13 @@ impl Machine {
                 let view = self.worker_view(call, newest);
                 let step = worker_entry(view, entry, spacing.too_early(sizes.spacing));
                 let outcome = step.outcome;
-                if is_refusal(outcome) {
+                if outcome.is_refusal() {
                     return self.refused(outcome, seen.hidden);
                 }
                 let made = step.push;
                 let next = step.call;
-                let counted = spacing_after(spacing, entry, made);
-                let hidden = seen.hidden_after(made, counted, next);
+                let counted = spacing.after(entry, made);
+                let hidden = seen.after_store(made, counted, next.in_range());
                 if let Push::One(_, _) = made {
                     return self.worker_moved_storing(step, counted, hidden);
                 }
@@ -253,13 +238,13 @@ impl Machine {
                 let view = self.thief_view(thief, mine);
                 let step = thief_entry(view, entry);
                 let outcome = step.outcome;
-                if is_refusal(outcome) {
+                if outcome.is_refusal() {
                     return self.refused(outcome, seen.hidden);
                 }
                 let head = step.head;
                 let next = step.call;
                 let moved = Thief { call: next };
-                let hidden = hidden_if(head.in_range() & moved.in_range(), seen.hidden);
+                let hidden = seen.after_head(head, moved.in_range());
                 return self.thief_moved(thief, step, hidden);
             }
         }

@@ -4,23 +4,24 @@ use mathlib.Core.Bool.{true}
 use Prim.Native.Nat.{ℕ}
 use native.Mathlib.Omega.{arith}
 use Rattle.terms.specs.Lists.{all}
+use Rattle.stores.specs.Look.{memoryInRange}
 use Rattle.machine.specs.InRange.{inRange}
 use Rattle.properties.specs.Accounts.{GivenTwiceViolates, LostViolates, accounts, holds}
 
 pub accounts-hold : all holds accounts ≡ true
-unfolding inRange
+unfolding inRange memoryInRange
 accounts-hold = refl
 
 -- put 1 was given twice
 pub given-twice-violates : GivenTwiceViolates
-unfolding inRange
+unfolding inRange memoryInRange
 given-twice-violates v =
     let e : _≡_ {A = ℕ} 2 1 = v .together 1 in
     omega arith
 
 -- put 3 was given to nobody, and does not stand
 pub lost-violates : LostViolates
-unfolding inRange
+unfolding inRange memoryInRange
 lost-violates v =
     let e : _≡_ {A = ℕ} 0 1 = v .together 3 in
     omega arith

@@ -9,6 +9,7 @@ use lib.ListN.{getD, length, length-set, set}
 use lib.Seq.{getD-set-other, getD-set-same}
 use borrow.Author.Tests.{eqb-false, ltb-true}
 use Rattle.terms.specs.Outcome.{isAnswer, isRefusal}
+use Rattle.terms.specs.Kinds.{thiefIsThere}
 use Rattle.terms.proofs.Laws.Tests.{and-left, and-right, decide, either}
 use Rattle.stores.specs.Lock.{isNobody}
 use Rattle.stores.specs.Spacing.{tooEarly}
@@ -18,7 +19,7 @@ use Rattle.machine.specs.Thief.{idleThief, keepsMargin, thiefMove, thiefRuns}
 use Rattle.machine.specs.Machine.{done, fresh, hasRoom, nothingPending, thiefCall}
 use Rattle.machine.specs.InRange.{inRange}
 use Rattle.machine.specs.Entries.{drained}
-use Rattle.machine.specs.Obey.{obey, obeyInRange, thiefIsThere}
+use Rattle.machine.specs.Obey.{obey, obeyInRange}
 use Rattle.machine.specs.Perform.{thiefView, workerView}
 use Rattle.claim.proofs.Follows.{same-party}
 use Rattle.machine.proofs.Laws.InRange.{bounds}
@@ -245,7 +246,7 @@ module _ (m : Machine) where
       decide (Kept m e) (inRange m && thiefIsThere (m .sizes) e)
       (λ met.
       kept-in-range e
-      (λ i there. omega (arith, ltb-true i (m .sizes .thieves) there, bounds m (and-left (inRange m) (thiefIsThere (m .sizes) e) met) .sizes .thieves-most))
+      (λ i there. omega (arith, ltb-true i (m .sizes .thieves) there, bounds m (and-left (inRange m) (thiefIsThere (m .sizes) e) met) .memory .sizes .thieves-most))
       (and-right (inRange m) (thiefIsThere (m .sizes) e) met))
       (λ unmet. kept-refused m e Wait refl refl)
 

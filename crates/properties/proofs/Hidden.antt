@@ -2,6 +2,7 @@
 use mathlib.Core.Path.{_≡_, refl}
 use mathlib.Core.Bool.{true}
 use Rattle.terms.specs.Lists.{all}
+use Rattle.stores.specs.Look.{memoryInRange}
 use Rattle.machine.specs.InRange.{inRange}
 use Rattle.machine.specs.Linearizable.{ffThe}
 use Rattle.machine.specs.Machine.{hidden, takesPending}
@@ -19,5 +20,5 @@ hidden-is-pending = is-pending ffThe hidden hands-on-hidden takesPending inRange
 
 -- the sizes of the table reach it
 pub bound-reached : all reaches reaching ≡ true
-unfolding inRange
+unfolding inRange memoryInRange
 bound-reached = refl

@@ -4,6 +4,7 @@ use mathlib.Core.Bool.{cond, not, _&&_}
 use mathlib.Core.List.{List, map}
 use Prim.Native.Nat.{ℕ}
 use lib.ListN.{List·getD-map}
+use Rattle.terms.specs.Kinds.{thiefIsThere}
 use Rattle.terms.proofs.Laws.Tests.{cond-map}
 use Rattle.terms.proofs.Laws.Lists.{all-map, map-set}
 use Rattle.stores.specs.Index.{slotOf}
@@ -14,8 +15,9 @@ use Rattle.machine.specs.Worker.{atEnd, atOrAboveHead, headIsPast, isFull, load
 use Rattle.machine.specs.Thief.{idleThief, keepsMargin, loads as thiefLoads, thiefInRange, thiefMove, thiefRuns}
 use Rattle.machine.specs.Machine.{done, fresh, hasRoom, memoryLoads, nothingPending, thiefCall, workerLoads}
 use Rattle.machine.specs.Update.{withLock, withMemory, withStore, withThief, withWorker}
+use Rattle.stores.specs.Look.{memoryInRange}
 use Rattle.machine.specs.InRange.{inRange}
-use Rattle.machine.specs.Obey.{obey, obeyInRange, thiefIsThere}
+use Rattle.machine.specs.Obey.{obey, obeyInRange}
 use Rattle.machine.specs.Linearizable.{ffThe}
 use Rattle.machine.specs.Perform.{thiefView, workerView, performWorker, stepOfWorker, performThief, stepOfThief}
 use Rattle.machine.specs.Entries.{drain, drained, unlessWorkerRuns, workerGoesOn}
@@ -133,7 +135,7 @@ module _ (f : ℕ → ℕ) where
   thief-blind g task StealUnlockAbort = refl
 
   in-range-renumber : (m : Machine) → inRange (renumber m) ≡ inRange m
-  unfolding inRange
+  unfolding inRange memoryInRange
   in-range-renumber m =
       rw (
         ranged-renumber f (m .buffer),

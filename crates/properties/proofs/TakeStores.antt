@@ -8,6 +8,7 @@ use lib.ListN.{drop, length}
 use lib.Signed.{ltZ}
 use borrow.Author.Tests.{le-ltb, lt-ltb, ltb-true}
 use Rattle.terms.specs.Outcome.{isRefusal}
+use Rattle.terms.specs.Kinds.{thiefIsThere}
 use Rattle.terms.proofs.Laws.Tests.{decide, either}
 use Rattle.stores.specs.Index.{next, previous}
 use Rattle.stores.specs.Lock.{isNobody}
@@ -22,7 +23,7 @@ use Rattle.machine.specs.Thief.{thiefMove, thiefRuns}
 use Rattle.machine.specs.Machine.{fresh, hasRoom, nothingPending, thiefCall}
 use Rattle.machine.specs.InRange.{inRange}
 use Rattle.machine.specs.Linearizable.{ffThe}
-use Rattle.machine.specs.Obey.{machineAfter, obey, obeyInRange, thiefIsThere}
+use Rattle.machine.specs.Obey.{machineAfter, obey, obeyInRange}
 use Rattle.machine.specs.Perform.{thiefView, workerView}
 use Rattle.machine.proofs.Laws.Worker.{push-fits}
 use Rattle.machine.proofs.Linearizable.Drain.{some-pending}

@@ -5,6 +5,7 @@ use mathlib.Core.List.{List, [], _∷_}
 use Prim.Native.Nat.{ℕ, _+_, _-_}
 use native.Mathlib.Omega.{arith}
 use lib.Dec.{ltb}
+use Rattle.terms.specs.Kinds.{thiefIsThere}
 use Rattle.terms.proofs.Laws.Tests.{by-test, cond-map, decide, either}
 use Rattle.stores.specs.Lock.{isNobody}
 use Rattle.stores.specs.Spacing.{counted, countedIn, takeBegins, tooEarly}
@@ -14,7 +15,7 @@ use Rattle.machine.specs.Machine.{fresh, hasRoom, nothingPending, thiefCall}
 use Rattle.machine.specs.Update.{withSpacing}
 use Rattle.machine.specs.InRange.{inRange}
 use Rattle.machine.specs.Entries.{workerGoesOn}
-use Rattle.machine.specs.Obey.{machineAfter, obey, obeyInRange, outcomesOf, thiefIsThere}
+use Rattle.machine.specs.Obey.{machineAfter, obey, obeyInRange, outcomesOf}
 use Rattle.machine.specs.Perform.{workerView}
 use Rattle.machine.proofs.Laws.Obey.{obey-by, sizes-kept}
 use Rattle.properties.specs.Types.{Done, Entry, Drain, ClientStore, BeginPut, BeginTake, WorkerStep, BeginSteal, ThiefStep, Machine, Wait, Spacing, WorkerCall, PutLoadHead, PutStoreSlot, PutStoreTail, TakeStoreTail, TakeLoadHead, TakeLoadSlot, TakeLock, TakeReloadHead, TakeRestoreTail, TakeUnlockEmpty, TakeUnlockTask, TakeLoadLastSlot, WorkerMove, WorkerView}

@@ -5,8 +5,8 @@ pub use Rattle.terms.specs.declared.outcome.Outcome.{Outcome}
 pub use Rattle.terms.specs.declared.outcome.Outcome.the-variants.{Moved, Place, Early, Wait, Stored, Task, Empty, Abort, Full, End}
 pub use Rattle.terms.specs.declared.sizes.Sizes.{Sizes}
 pub use Rattle.stores.specs.declared.index.Index.{Index}
-pub use Rattle.stores.specs.declared.index.Load.{Load}
-pub use Rattle.stores.specs.declared.index.Load.the-variants.{NoSlot, SlotOf}
+pub use Rattle.stores.specs.declared.load.Load.{Load}
+pub use Rattle.stores.specs.declared.load.Load.the-variants.{NoSlot, SlotOf}
 pub use Rattle.machine.specs.declared.machine.Done.{Done}
 pub use Rattle.machine.specs.declared.machine.Machine.{Machine}
 pub use Rattle.stores.specs.declared.spacing.Spacing.{Spacing}

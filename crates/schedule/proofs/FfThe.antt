@@ -3,10 +3,12 @@ use mathlib.Core.Path.{_≡_, refl, ap, _∙_}
 use mathlib.Core.Bool.{false, _&&_}
 use Rattle.terms.specs.Sizes.{sizesInRange}
 use Rattle.terms.specs.declared.outcome.Outcome.the-variants.{Wait}
+use Rattle.stores.specs.Look.{memoryInRange}
 use Rattle.machine.specs.InRange.{inRange}
 use Rattle.machine.specs.Linearizable.{ffThe}
 use Rattle.machine.specs.Machine.{done, fresh}
-use Rattle.machine.specs.Obey.{obey, thiefIsThere}
+use Rattle.machine.specs.Obey.{obey}
+use Rattle.terms.specs.Kinds.{thiefIsThere}
 use Rattle.machine.proofs.Laws.Hidden.{hidden-out}
 use Rattle.machine.proofs.Laws.Obey.{out-of-range-waits}
 use Rattle.machine.proofs.Linearizable.Theorem.{demand3}
@@ -20,7 +22,7 @@ use Rattle.schedule.proofs.Schedules.{no-entry-waits}
 
 module _ (s : Sizes) (out : sizesInRange s ≡ false) where
   fresh-out : inRange (fresh s) ≡ false
-  unfolding inRange
+  unfolding inRange memoryInRange
   fresh-out = rw out
 
   waits : (e : Entry) → obey (fresh s) e ≡ done Wait (fresh s)

@@ -9,7 +9,7 @@ use lib.Dec.{ltb}
 use lib.ListN.{getD, length, replicate, take}
 use lib.Seq.{take-length, take-suc}
 use borrow.Author.Tests.{le-ltb}
-use Rattle.terms.specs.Kinds.{kindOf, operandOf}
+use Rattle.terms.specs.Kinds.{kindOf, operandOf, thiefIsThere}
 use Rattle.terms.specs.Lists.{largest}
 use Rattle.terms.specs.Tally.{counted, noneCounted}
 use Rattle.terms.proofs.Laws.Runs.{each-there}
@@ -58,7 +58,7 @@ pub no-entry-waits : NoEntryWaits
 no-entry-waits m r = out-of-range-waits m (ThiefStep 4294967295) (go (inRange m) refl)
   where
     go : (b : Bool) → inRange m ≡ b → (b && ltb 4294967295 (m .sizes .thieves)) ≡ false
-    go true p = le-ltb 4294967295 (m .sizes .thieves) (omega (arith, bounds m p .sizes .thieves-most))
+    go true p = le-ltb 4294967295 (m .sizes .thieves) (omega (arith, bounds m p .memory .sizes .thieves-most))
     go false p = refl
 
 module _ {M : Type 0} (b : Implementation M Entry) (proved : Proved b) where

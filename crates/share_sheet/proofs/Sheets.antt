@@ -2,9 +2,10 @@
 use mathlib.Core.Path.{_≡_, refl}
 use mathlib.Core.Bool.{true}
 use Rattle.terms.specs.Lists.{all}
+use Rattle.stores.specs.Look.{memoryInRange}
 use Rattle.machine.specs.InRange.{inRange}
 use Rattle.share_sheet.specs.Sheets.{holds, table}
 
 pub sheets-hold : all holds table ≡ true
-unfolding inRange
+unfolding inRange memoryInRange
 sheets-hold = refl

@@ -5,3 +5,4 @@ pub mod Chain
 pub mod Slots
 pub mod Pending
 pub mod Spacing
+pub mod Look

@@ -5,11 +5,15 @@ use Prim.Native.Nat.{ℕ}
 use lib.Dec.{eqb}
 use lib.IntN.{ℤ, pos, negsuc}
 use lib.ListN.{length, replicate}
-use Rattle.stores.specs.Types.{APut, ATake, Client, Index, Nobody, Nothing, One, Slot, Spacing, Store, Tail, TheClient, StoreBuffer, TheThief, TheWorker}
+use Rattle.terms.specs.Lists.{equal}
+use Rattle.terms.specs.Sizes.{sized}
+use Rattle.stores.specs.Types.{APut, ATake, BeginPut, BeginSteal, BeginTake, Client, ClientStore, Drain, Index, Look, Nobody, Nothing, One, Slot, Spacing, Store, StoreBuffer, Tail, TheClient, TheThief, TheWorker, ThiefStep, WorkerStep}
 use Rattle.stores.specs.Index.{aboveBy, belowByMore, eqZ, indexInRange, nextOrSame, previousOrSame, slotIndexInRange, slotOf}
 use Rattle.stores.specs.Lock.{isNobody}
 use Rattle.stores.specs.StoreBuffer.{clientStore, dropOldestOrSame, newestTail, pending, pushInRange, pushLowersTail, pushOrSame, pushedOrSame, scan, slotAfter, slotStore, storeInRange, tailStore, takeStores}
-use Rattle.stores.specs.Spacing.{countedInOrSame, noTake, spacingInRange, takeBegins, tooEarly}
+use Rattle.stores.specs.Spacing.{countedInOrSame, noTake, spacingAfter, spacingInRange, takeBegins, tooEarly}
+use Rattle.stores.specs.Load.{loadedBetween, memoryLoad, workerLoad}
+use Rattle.stores.specs.Look.{hiddenAfterDrain, hiddenAfterHead, hiddenAfterStore, lookAt, memoryInRange}
 
 abbrev pub index : ℤ → Index
 index z = record { at = z }
@@ -172,5 +176,105 @@ spacings =
     ∷ eqb (countedInOrSame (One ATake (Tail (index (pos 1)))) (counting 1 true) .count) 1
     ∷ []
 
+-- whatever the entry, the store that it has made counts, but where it begins a take: then the count begins anew
+abbrev pub spacingsAfter : List Bool
+spacingsAfter =
+    map (λ e. eqb (spacingAfter e (One TheClient Client) (counting 5 true) .count) 6) (Drain ∷ ClientStore ∷ BeginPut 9 ∷ WorkerStep ∷ BeginSteal 0 ∷ ThiefStep 0 ∷ [])
+    ++ eqb (spacingAfter BeginTake (One TheClient Client) (counting 5 true) .count) 0
+    ∷ spacingAfter BeginTake Nothing noTake .begun
+    ∷ not (spacingAfter WorkerStep Nothing noTake .begun)
+    ∷ []
+
+-- four slots, and as many as there are
+abbrev pub fourSlots : List ℕ
+fourSlots = 10 ∷ 11 ∷ 12 ∷ 13 ∷ []
+
+abbrev pub allSlots : List ℕ
+allSlots = replicate 256 9
+
+-- two stores to slot 3, and one that is not pending
+abbrev pub filling : StoreBuffer
+filling = record { stores = slotStore (index (pos 7)) 20 ∷ slotStore (index (pos 3)) 21 ∷ slotStore (index (pos 3)) 22 ∷ []; count = 2 }
+
+-- An index below 0 lies in slot 0, and a slot past the last holds 0. The worker loads the newest pending store to the slot, whichever index led there. What lies between two indices is loaded in order, and nothing where the first is not below the second.
+abbrev pub loads : List Bool
+loads =
+    eqb (memoryLoad 4 fourSlots (index (pos 7))) 13
+    ∷ eqb (memoryLoad 4 fourSlots (index (negsuc 0))) 10
+    ∷ eqb (memoryLoad 0 allSlots (index (pos 255))) 9
+    ∷ eqb (memoryLoad 0 allSlots (index (pos 256))) 0
+    ∷ eqb (workerLoad 4 fourSlots filling (index (pos 11))) 21
+    ∷ eqb (workerLoad 4 fourSlots filling (index (pos 2))) 12
+    ∷ eqb (workerLoad 4 fourSlots filling (index (negsuc 0))) 10
+    ∷ eqb (workerLoad 0 allSlots filling (index (pos 7))) 20
+    ∷ eqb (workerLoad 0 allSlots filling (index (pos 256))) 0
+    ∷ equal (loadedBetween (memoryLoad 4 fourSlots) (index (pos 2)) (index (pos 5))) (12 ∷ 13 ∷ 10 ∷ [])
+    ∷ equal (loadedBetween (memoryLoad 4 fourSlots) (index (negsuc 0)) (index (pos 1))) (10 ∷ 10 ∷ [])
+    ∷ equal (loadedBetween (memoryLoad 4 fourSlots) (index (pos 2)) (index (pos 2))) []
+    ∷ equal (loadedBetween (memoryLoad 4 fourSlots) (index (pos 2)) (index (pos 1))) []
+    ∷ []
+
+-- parts whose sizes are in range, with one store at most pending
+abbrev pub partsInRange : ℤ → ℤ → StoreBuffer → Spacing → Bool
+partsInRange head tail b p = memoryInRange (sized 2 1 0 0 1 0) (index head) (index tail) b p
+
+-- each part at the edges of its range, the others within; cells past the pending stores are not looked at
+abbrev pub parts : List Bool
+parts =
+    partsInRange (negsuc 0) (negsuc 0) (holdingTails 1 (negsuc 0 ∷ negsuc 1 ∷ [])) (counting 4096 true)
+    ∷ partsInRange (pos 2147483648) (pos 2147483648) (holdingTails 1 (pos 2147483648 ∷ [])) noTake
+    ∷ not (partsInRange (negsuc 1) (pos 0) (holding 0) noTake)
+    ∷ not (partsInRange (pos 2147483649) (pos 0) (holding 0) noTake)
+    ∷ not (partsInRange (pos 0) (negsuc 1) (holding 0) noTake)
+    ∷ not (partsInRange (pos 0) (pos 2147483649) (holding 0) noTake)
+    ∷ not (partsInRange (pos 0) (pos 0) (holding 2) noTake)
+    ∷ not (partsInRange (pos 0) (pos 0) (holdingTails 1 (negsuc 1 ∷ [])) noTake)
+    ∷ not (partsInRange (pos 0) (pos 0) (holding 0) (counting 4097 true))
+    ∷ memoryInRange (sized 256 64 63 64 8 2147483647) (index (pos 0)) (index (pos 0)) (holding 64) noTake
+    ∷ not (memoryInRange (sized 256 64 63 64 8 2147483647) (index (pos 0)) (index (pos 0)) (holding 65) noTake)
+    ∷ not (memoryInRange (sized 1 1 0 0 1 0) (index (pos 0)) (index (pos 0)) (holding 0) noTake)
+    ∷ not (memoryInRange (sized 2 1 0 0 9 0) (index (pos 0)) (index (pos 0)) (holding 0) noTake)
+    ∷ []
+
+-- a look at a machine whose memory has the tail 5, and its worker a lower one; whether its calls are in range, and what the spacing rule goes by
+abbrev pub looking : Bool → Spacing → Look
+looking calls p = lookAt (sized 2 1 0 0 1 0) (index (pos 0)) (index (pos 5)) (holdingTails 1 (pos 4 ∷ [])) p calls
+
+-- a look that has found the worker's tail 5, and so many stores of take step 1
+abbrev pub seeing : ℕ → Look
+seeing n = record { ranged = true; tail = index (pos 5); hidden = n }
+
+-- Out of range the number is 0; in range one store more of take step 1 is counted, up to 64, and one less after its drain, down to 0.
+abbrev pub looks : List Bool
+looks =
+    looking true noTake .ranged
+    ∷ not (looking false noTake .ranged)
+    ∷ not (looking true (counting 4097 true) .ranged)
+    ∷ eqb (looking true noTake .hidden) 1
+    ∷ eqb (looking false noTake .hidden) 0
+    ∷ eqb (looking true (counting 4097 true) .hidden) 0
+    ∷ eqZ (looking true noTake .tail .at) (pos 4)
+    ∷ eqb (hiddenAfterStore (One ATake (Tail (index (pos 4)))) noTake true (seeing 63)) 64
+    ∷ eqb (hiddenAfterStore (One ATake (Tail (index (pos 4)))) noTake true (seeing 64)) 64
+    ∷ eqb (hiddenAfterStore (One ATake (Tail (index (pos 4)))) noTake true (seeing 65)) 65
+    ∷ eqb (hiddenAfterStore (One ATake (Tail (index (pos 5)))) noTake true (seeing 3)) 3
+    ∷ eqb (hiddenAfterStore (One TheClient Client) (counting 4096 true) true (seeing 3)) 3
+    ∷ eqb (hiddenAfterStore (One TheClient Client) (counting 4097 true) true (seeing 3)) 0
+    ∷ eqb (hiddenAfterStore (One ATake (Tail (index (negsuc 0)))) noTake true (seeing 3)) 4
+    ∷ eqb (hiddenAfterStore (One ATake (Tail (index (negsuc 1)))) noTake true (seeing 3)) 0
+    ∷ eqb (hiddenAfterStore Nothing noTake true (seeing 3)) 3
+    ∷ eqb (hiddenAfterStore Nothing noTake false (seeing 3)) 0
+    ∷ eqb (hiddenAfterHead (index (negsuc 0)) true (seeing 3)) 3
+    ∷ eqb (hiddenAfterHead (index (negsuc 1)) true (seeing 3)) 0
+    ∷ eqb (hiddenAfterHead (index (pos 2147483648)) true (seeing 3)) 3
+    ∷ eqb (hiddenAfterHead (index (pos 2147483649)) true (seeing 3)) 0
+    ∷ eqb (hiddenAfterHead (index (pos 0)) false (seeing 3)) 0
+    ∷ eqb (hiddenAfterDrain (index (pos 5)) (Tail (index (pos 4))) (seeing 3)) 2
+    ∷ eqb (hiddenAfterDrain (index (pos 5)) (Tail (index (pos 4))) (seeing 0)) 0
+    ∷ eqb (hiddenAfterDrain (index (pos 5)) (Tail (index (pos 5))) (seeing 3)) 3
+    ∷ eqb (hiddenAfterDrain (index (pos 3)) (Tail (index (pos 4))) (seeing 3)) 3
+    ∷ eqb (hiddenAfterDrain (index (pos 5)) (Slot 1 (index (pos 4))) (seeing 3)) 3
+    ∷ []
+
 abbrev pub edges : List Bool
-edges = ranges ++ neighbours ++ distances ++ slots ++ locks ++ buffers ++ lags ++ spacings
+edges = ranges ++ neighbours ++ distances ++ slots ++ locks ++ buffers ++ lags ++ spacings ++ spacingsAfter ++ loads ++ parts ++ looks

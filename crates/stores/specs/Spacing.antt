@@ -3,7 +3,7 @@
 use mathlib.Core.Bool.{Bool, true, false, cond, _&&_}
 use Prim.Native.Nat.{ℕ, _+_}
 use lib.Dec.{leb, ltb}
-use Rattle.stores.specs.Types.{Maker, TheClient, APut, ATake, Push, Nothing, One, Spacing}
+use Rattle.stores.specs.Types.{Entry, Drain, ClientStore, BeginPut, BeginTake, WorkerStep, BeginSteal, ThiefStep, Maker, TheClient, APut, ATake, Push, Nothing, One, Spacing}
 
 -- before the first take the count is 0
 abbrev pub noTake : Spacing
@@ -31,6 +31,16 @@ countedIn (One maker kind) s = cond (counts maker) (counted s) s
 -- .. unless the count is out of range: then all stays as it is
 abbrev pub countedInOrSame : Push → Spacing → Spacing
 countedInOrSame p s = cond (ltb 4096 (s .count)) s (countedIn p s)
+
+-- after an entry that is not refused: a take that begins counts anew, and any other entry counts the store that it has made; for the code alone
+abbrev pub spacingAfter : Entry → Push → Spacing → Spacing
+spacingAfter BeginTake p s = takeBegins
+spacingAfter ClientStore p s = countedInOrSame p s
+spacingAfter (BeginPut x) p s = countedInOrSame p s
+spacingAfter WorkerStep p s = countedInOrSame p s
+spacingAfter Drain p s = countedInOrSame p s
+spacingAfter (BeginSteal i) p s = countedInOrSame p s
+spacingAfter (ThiefStep i) p s = countedInOrSame p s
 
 -- a take has begun before, and fewer stores were counted since then than the spacing
 abbrev pub tooEarly : Spacing → ℕ → Bool

@@ -1,10 +1,14 @@
--- The declared types of `src/`, passed on. Nothing is defined here.
+-- The declared types of `src/`, and those of `terms`, passed on. Nothing is defined here.
+pub use Rattle.terms.specs.declared.entry.Entry.{Entry}
+pub use Rattle.terms.specs.declared.entry.Entry.the-variants.{Drain, ClientStore, BeginPut, BeginTake, WorkerStep, BeginSteal, ThiefStep}
+pub use Rattle.terms.specs.declared.sizes.Sizes.{Sizes}
 pub use Rattle.stores.specs.declared.index.Index.{Index}
-pub use Rattle.stores.specs.declared.index.Load.{Load}
-pub use Rattle.stores.specs.declared.index.Load.the-variants.{NoSlot, SlotOf}
+pub use Rattle.stores.specs.declared.load.Load.{Load}
+pub use Rattle.stores.specs.declared.load.Load.the-variants.{NoSlot, SlotOf}
 pub use Rattle.stores.specs.declared.lock.Holder.{Holder}
 pub use Rattle.stores.specs.declared.lock.Holder.the-variants.{Nobody, TheWorker, TheThief}
 pub use Rattle.stores.specs.declared.lock.Lock.{Lock}
+pub use Rattle.stores.specs.declared.look.Look.{Look}
 pub use Rattle.stores.specs.declared.spacing.Spacing.{Spacing}
 pub use Rattle.stores.specs.declared.store_buffer.Scan.{Scan}
 pub use Rattle.stores.specs.declared.store_buffer.Store.{Store}

@@ -19,12 +19,6 @@ pub struct Index {
     pub at: i64,
 }
 
-// The slot from which a step loads, if it loads from one: that of an index.
-pub enum Load {
-    NoSlot,
-    SlotOf(Index),
-}
-
 impl Index {
     // Whether it is neither below the least nor above the greatest that an index may be.
     fn in_range_from(self, least: i64) -> bool

@@ -1,8 +1,17 @@
 use crate::store_buffer::Maker;
 use crate::store_buffer::Push;
+use terms::Entry;
 ghost use mathlib.Core.Path.{_≡_};
 ghost use Prim.Native.Nat.{_≤_};
-ghost use Rattle.stores.specs.Spacing.{counted, countedInOrSame, counts, spacingInRange, takeBegins, tooEarly};
+ghost use Rattle.stores.specs.Spacing.{
+  counted,
+  countedInOrSame,
+  counts,
+  spacingAfter,
+  spacingInRange,
+  takeBegins,
+  tooEarly,
+};
 
 // What the spacing rule goes by.
 pub struct Spacing {
@@ -83,6 +92,17 @@ impl Spacing {
         Spacing {
             count: 0,
             begun: true,
+        }
+    }
+
+    // After an entry that is not refused, with the store that it makes, if it makes one.
+    pub fn after(self, entry: Entry, made: Push) -> Spacing
+        ensures { λ r. ⌜ r ≡ spacingAfter entry made self ⌝ }
+    {
+        if let Entry::BeginTake = entry {
+            Spacing::take_begins()
+        } else {
+            self.counted_in(made)
         }
     }
 }

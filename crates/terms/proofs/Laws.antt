@@ -1,3 +1,4 @@
+pub mod Kinds
 pub mod Largest
 pub mod Lists
 pub mod Logic

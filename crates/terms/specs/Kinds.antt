@@ -1,11 +1,11 @@
 -- Kinds of entries: what a kind byte means, which operands are allowed, and whose entry each is. Renders "Kinds", of "The schedule file", and 3 KIND and 4 WHO, of "The numbers", as far as one
 -- entry goes.
-use mathlib.Core.Bool.{Bool, cond}
+use mathlib.Core.Bool.{Bool, true, cond}
 use mathlib.Core.List.{List, [], _∷_}
 use Prim.Native.Nat.{ℕ, suc}
 use lib.Dec.{eqb, ltb}
 use lib.ListN.{getD}
-use Rattle.terms.specs.Types.{Allowed, BeginPut, BeginSteal, BeginTake, ClientStore, Drain, Entry, Kind, Meaning, ThiefStep, Who, WorkerStep}
+use Rattle.terms.specs.Types.{Allowed, BeginPut, BeginSteal, BeginTake, ClientStore, Drain, Entry, Kind, Meaning, Sizes, ThiefStep, Who, WorkerStep}
 use Rattle.terms.specs.declared.kinds.Meaning.the-variants as meaning
 
 -- the kind and the operand of each entry, as a file has them
@@ -36,6 +36,26 @@ partyNumber BeginTake = 0
 partyNumber WorkerStep = 0
 partyNumber (BeginSteal thief) = suc thief
 partyNumber (ThiefStep thief) = suc thief
+
+-- the thief that an entry names; 0, the first, where it names none
+abbrev pub thiefOf : Entry → ℕ
+thiefOf Drain = 0
+thiefOf ClientStore = 0
+thiefOf (BeginPut x) = 0
+thiefOf BeginTake = 0
+thiefOf WorkerStep = 0
+thiefOf (BeginSteal i) = i
+thiefOf (ThiefStep i) = i
+
+-- the thief that the entry names, if it names one, is below the number of thieves
+abbrev pub thiefIsThere : Sizes → Entry → Bool
+thiefIsThere s Drain = true
+thiefIsThere s ClientStore = true
+thiefIsThere s (BeginPut x) = true
+thiefIsThere s BeginTake = true
+thiefIsThere s WorkerStep = true
+thiefIsThere s (BeginSteal i) = ltb i (s .thieves)
+thiefIsThere s (ThiefStep i) = ltb i (s .thieves)
 
 -- an entry, if its operand is allowed; else WHO
 abbrev pub allowedIf : Bool → ℕ → Entry → Meaning

@@ -1,5 +1,5 @@
 -- The paper's numbers, as one table over the definitions: each outcome with number and value, each refusal with number and place, sizes and entries of a file that are refused, each kind of entry
--- with its party, and margins that are enough or short. It refuses a number that is another in definition and code alike. `proofs/Numbers.antt` proves one fact: every row holds.
+-- with its party and its thief, and margins that are enough or short. It refuses a number that is another in definition and code alike. `proofs/Numbers.antt` proves one fact: every row holds.
 use mathlib.Core.Bool.{Bool, true, false, not, _&&_}
 use mathlib.Core.List.{List, [], _∷_}
 use Prim.Native.Nat.{ℕ}
@@ -9,7 +9,7 @@ use Rattle.terms.specs.declared.kinds.Meaning.the-variants as meaning
 use Rattle.terms.specs.Outcome.{isAnswer, isAnswerNumber, isRefusal, numberOf, valueOf}
 use Rattle.terms.specs.Refusal.{refusedBy}
 use Rattle.terms.specs.Sizes.{checkSizes, enoughMargin, refusalInSizes, sized}
-use Rattle.terms.specs.Kinds.{entryOf, partyNumber}
+use Rattle.terms.specs.Kinds.{entryOf, partyNumber, thiefIsThere, thiefOf}
 
 pub data Row : Type 0 where
   -- an outcome's number and value, and whether it is an answer or a refusal
@@ -23,6 +23,8 @@ pub data Row : Type 0 where
   entry : (thieves at kind operand number place : ℕ) → Row
   -- whose entry it is
   party : Entry → ℕ → Row
+  -- the thief that it names, and whether that thief is there, with so many
+  names : Entry → (thieves thief : ℕ) (there : Bool) → Row
   -- whether the margin is enough
   enough : Sizes → Bool → Row
 
@@ -46,6 +48,7 @@ holds (refusal r number place) = refusedBy r number place
 holds (size s number place) = isRefused number place (refusalInSizes (checkSizes s))
 holds (entry thieves at kind operand number place) = isNoEntry number place (entryOf thieves at kind operand)
 holds (party e number) = eqb (partyNumber e) number
+holds (names e thieves thief there) = eqb (thiefOf e) thief && same (thiefIsThere (sized 2 1 0 0 thieves 0) e) there
 holds (enough s is) = same (enoughMargin s) is
 
 abbrev pub numbers : List Row
@@ -93,6 +96,15 @@ numbers =
     ∷ party (BeginSteal 7) 8
     ∷ party (ThiefStep 0) 1
     ∷ party (ThiefStep 7) 8
+    ∷ names Drain 0 0 true
+    ∷ names ClientStore 0 0 true
+    ∷ names (BeginPut 5) 2 0 true
+    ∷ names BeginTake 0 0 true
+    ∷ names WorkerStep 0 0 true
+    ∷ names (BeginSteal 1) 2 1 true
+    ∷ names (BeginSteal 2) 2 2 false
+    ∷ names (ThiefStep 1) 2 1 true
+    ∷ names (ThiefStep 2) 2 2 false
     -- a margin just enough, one short, 0, which is the buffer size, and one beyond the buffer
     ∷ enough (sized 4 33 1 17 1 0) true
     ∷ enough (sized 4 33 1 16 1 0) false

@@ -1,5 +1,5 @@
 ghost use mathlib.Core.Path.{_≡_};
-ghost use Rattle.terms.specs.Kinds.{partyNumber};
+ghost use Rattle.terms.specs.Kinds.{partyNumber, thiefOf};
 
 // The seven kinds of entry that a schedule is made of. A call is begun by one entry, which leaves memory alone, and then
 // makes its steps, one to an entry.
@@ -33,6 +33,21 @@ impl Entry {
             Entry::WorkerStep => 0,
             Entry::BeginSteal(thief) => thief as usize + 1,
             Entry::ThiefStep(stepping) => stepping as usize + 1,
+        }
+    }
+
+    // The thief that it names; 0, the first, where it names none.
+    pub fn thief(self) -> u32
+        ensures { λ r. ⌜ r ≡ thiefOf self ⌝ }
+    {
+        match self {
+            Entry::Drain
+            | Entry::ClientStore
+            | Entry::BeginPut(_)
+            | Entry::BeginTake
+            | Entry::WorkerStep => 0,
+            Entry::BeginSteal(beginner) => beginner,
+            Entry::ThiefStep(stepper) => stepper,
         }
     }
 }

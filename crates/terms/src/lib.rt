@@ -3,8 +3,8 @@
 // No function here asks anything of its caller. Reading order:
 //
 // - `sizes`: the six sizes of a schedule, their ranges, and the margin;
-// - `entry`: the seven kinds of entry, and whose entry each is;
-// - `outcome`: the outcome of an entry, with its number and value in a trace;
+// - `entry`: the seven kinds of entry, whose entry each is, and which thief it names;
+// - `outcome`: the outcome of an entry, with its number and value in a trace, and whether it is a refusal;
 // - `refusal`: why a file is refused, with number and place;
 // - `kinds`: what a kind byte and its operand mean: an entry, or a refusal;
 // - `tally`: how many entries had each of three outcomes; an outcome is counted by value, or in a tally that is lent.

@@ -1,5 +1,5 @@
 ghost use mathlib.Core.Path.{_≡_};
-ghost use Rattle.terms.specs.Outcome.{isAnswerNumber, numberOf, valueOf};
+ghost use Rattle.terms.specs.Outcome.{isAnswerNumber, isRefusal, numberOf, valueOf};
 
 // The outcome of an entry.
 pub enum Outcome {
@@ -60,6 +60,14 @@ impl Outcome {
             Outcome::Full => 0,
             Outcome::End => 0,
         }
+    }
+
+    // Whether it is 5, 6 or 7: a refusal, which leaves the machine as it is.
+    pub fn is_refusal(self) -> bool
+        ensures { λ r. ⌜ r ≡ isRefusal self ⌝ }
+    {
+        let number = self.number();
+        (5 <= number) & (number <= 7)
     }
 }
 

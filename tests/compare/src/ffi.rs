@@ -12,11 +12,20 @@
 //!
 //! The comment at each call names what is particular to it.
 
+use crate::queue::Queue;
 use crate::sides::Answer;
 
 extern "C" {
     fn rehearsal_read(file: *const u8, file_len: usize, sizes: *mut u8, sizes_len: usize) -> u64;
     fn rehearsal_run(
+        file: *const u8,
+        file_len: usize,
+        trace: *mut u8,
+        trace_len: usize,
+        totals: *mut u8,
+        totals_len: usize,
+    ) -> u64;
+    fn rehearsal_cas_run(
         file: *const u8,
         file_len: usize,
         trace: *mut u8,
@@ -63,11 +72,15 @@ pub fn read(file: &[u8], sizes: &mut [u8]) -> Answer {
 }
 
 /// Runs a file; the trace and the three totals and hidden go into the lent memory.
-pub fn run(file: &[u8], trace: &mut [u8], totals: &mut [u8]) -> Answer {
+pub fn run(queue: Queue, file: &[u8], trace: &mut [u8], totals: &mut [u8]) -> Answer {
+    let run = match queue {
+        Queue::Locking => rehearsal_run,
+        Queue::Swapping => rehearsal_cas_run,
+    };
     // SAFETY: `file` is only read; `trace` and `totals` are two exclusive borrows,
     // so they don't overlap; see the module's reasons.
     let answer = unsafe {
-        rehearsal_run(
+        run(
             file.as_ptr(),
             file.len(),
             trace.as_mut_ptr(),

@@ -1,9 +1,9 @@
 //! Comparison of two implementations of the rehearsal bench: the one behind
 //! the exported functions of a static library and an independent one.
 //!
-//! `compare` takes files through both, and machines through single functions
-//! of both, and says whether they agree; `bench` takes the same files through
-//! both and says how long each needs.
+//! `compare` takes files through both queues of both, and machines through single
+//! functions of both, and says whether they agree; `bench` takes the same files
+//! through both and says how long each needs.
 
 pub mod arrays;
 pub mod campaign;
@@ -23,6 +23,7 @@ pub mod machines;
 pub mod operations;
 pub mod plain;
 pub mod program;
+pub mod queue;
 pub mod random;
 pub mod rehearsals;
 pub mod report;
@@ -35,5 +36,6 @@ pub mod sides;
 pub mod single;
 pub mod spread;
 pub mod steps;
+pub mod swaps;
 pub mod tally;
 pub mod writer;

@@ -1,6 +1,7 @@
 //! Schedules before they are bytes, and the bytes, sound or not; the numbers of
 //! kinds and outcomes.
 
+use crate::queue::Queue;
 use crate::sides::{in_file_order, REFERENCE, TOTALS_ROOM};
 
 /// The most entries a file may have.
@@ -92,10 +93,10 @@ impl Draft {
     }
 
     /// The outcomes that the reference gives to the entries of a sound draft.
-    pub fn outcomes(&self) -> Vec<u8> {
+    pub fn outcomes(&self, queue: Queue) -> Vec<u8> {
         let entries = self.entries.len();
         let mut trace = vec![0; trace_room(entries)];
-        let answer = (REFERENCE.run)(&self.bytes(), &mut trace, &mut [0; TOTALS_ROOM]);
+        let answer = (REFERENCE.run)(queue, &self.bytes(), &mut trace, &mut [0; TOTALS_ROOM]);
         assert!(!answer.is_refused(), "the draft is sound");
         trace[4..4 + entries].to_vec()
     }

@@ -3,6 +3,7 @@
 use reference::{Refusal, Sizes, Totals};
 
 use crate::ffi;
+use crate::queue::Queue;
 
 /// Bytes that must be lent for the six sizes, and for the three totals and hidden: given,
 /// aborts, waits and hidden.
@@ -50,6 +51,9 @@ impl Answer {
     }
 }
 
+/// The queue, the file and the memory for the trace and the totals.
+pub type Run = fn(Queue, &[u8], &mut [u8], &mut [u8]) -> Answer;
+
 /// Sizes, kinds, operands and the memory for the file.
 pub type Write = fn(&[u32; 6], &[u8], &[u32], &mut [u8]) -> Answer;
 
@@ -57,7 +61,7 @@ pub type Write = fn(&[u32; 6], &[u8], &[u32], &mut [u8]) -> Answer;
 pub struct Side {
     pub name: &'static str,
     pub read: fn(&[u8], &mut [u8]) -> Answer,
-    pub run: fn(&[u8], &mut [u8], &mut [u8]) -> Answer,
+    pub run: Run,
     pub alike: fn(&[u8], &[u8]) -> Answer,
     pub write: Write,
     pub share_sheet: fn(&[u8], u32, &mut [u8]) -> Answer,
@@ -100,10 +104,14 @@ fn reference_read(file: &[u8], sizes: &mut [u8]) -> Answer {
 
 /// Too few bytes for the totals are refused as too few for the trace are, so
 /// such a run is given none of it.
-fn reference_run(file: &[u8], trace: &mut [u8], totals: &mut [u8]) -> Answer {
+fn reference_run(queue: Queue, file: &[u8], trace: &mut [u8], totals: &mut [u8]) -> Answer {
+    let run = match queue {
+        Queue::Locking => reference::run,
+        Queue::Swapping => reference::run_cas,
+    };
     let short = totals.len() < TOTALS_ROOM;
     let trace = if short { &mut [] } else { trace };
-    Answer::of(reference::run(file, trace).map(|ran| {
+    Answer::of(run(file, trace).map(|ran| {
         let Totals {
             given,
             aborts,

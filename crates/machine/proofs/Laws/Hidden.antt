@@ -1,26 +1,28 @@
--- How many stores of take step 1 are pending after an entry: by what the entry changes, from what one look found before it.
+-- How many stores of take step 1 are pending after an entry: by what the entry changes, from what one look found before it. As far as no call goes, that is a law of the parts (`Look`, of `stores`).
 use mathlib.Core.Path.{_≡_, ap, sym, _∙_}
-use mathlib.Core.Bool.{Bool, true, false, cond, _&&_}
-use Prim.Native.Nat.{ℕ, _+_, _-_, _≤_, _<_, zero-le}
+use mathlib.Core.Bool.{true, false, _&&_}
+use Prim.Native.Nat.{ℕ, _≤_, _<_, zero-le}
 use native.Mathlib.Nat.{le-refl}
-use native.Mathlib.Omega.{arith}
-use lib.ListN.{length, length-take}
+use lib.ListN.{length}
+use Rattle.terms.proofs.Laws.Lists.{&&-true, all-set}
 use Rattle.terms.proofs.Laws.Tests.{either}
-use Rattle.stores.specs.Index.{indexInRange}
-use Rattle.stores.specs.Spacing.{spacingInRange}
-use Rattle.stores.specs.StoreBuffer.{lowersTail, oldest, pending, pushInRange, pushLowersTail, pushedIn}
-use Rattle.stores.proofs.Laws.StoreBuffer.{drain-takes, fits-more, pushFits, pushed-count, pushed-ranged, pushed-takes, takeStores-most}
+use Rattle.stores.specs.Look.{hiddenAfterDrain, hiddenAfterHead, hiddenAfterStore, hiddenIf, memoryInRange}
+use Rattle.stores.specs.StoreBuffer.{oldest, pending, pushedIn, takeStores}
+use Rattle.stores.proofs.Laws.Look.{headed-hidden, stored-hidden}
+use Rattle.stores.proofs.Laws.Look as parts
+use Rattle.stores.proofs.Laws.StoreBuffer.{pushFits}
 use Rattle.machine.specs.Types.{Done, Holder, Index, Look, Machine, Outcome, Push, Spacing, ThiefCall, WorkerCall}
 use Rattle.machine.specs.InRange.{inRange}
 use Rattle.machine.specs.Worker.{workerInRange}
 use Rattle.machine.specs.Thief.{thiefInRange}
-use Rattle.machine.specs.Machine.{done, handing, hidden, hiddenIf, look, takesPending, workerTail}
+use Rattle.machine.specs.Machine.{done, handing, hidden, look, takesPending}
 use Rattle.machine.specs.Update.{withBuffer, withHead, withLock, withSpacing, withThief, withWorker}
 use Rattle.machine.specs.Entries.{drained}
-use Rattle.machine.proofs.Laws.InRange.{bounds, drained-ranged, pending-within, thief-ranged, worker-ranged}
+use Rattle.machine.proofs.Laws.InRange.{bounds}
 
 -- What an operation hands back, by what a look at m has found, where as many are pending as in m.
 pub told : (m n : Machine) {seen : Look} {d : Done} (o : Outcome) → seen ≡ look m → hidden n ≡ hidden m → d ≡ handing o (seen .hidden) n → d ≡ done o n
+unfolding inRange
 told m n o found same hands = hands ∙ ap (λ s. handing o (s .hidden) n) found ∙ ap (λ h. handing o h n) (sym same)
 
 -- none, of a machine out of range
@@ -36,47 +38,29 @@ module _ (m : Machine) (ready : inRange m ≡ true) where
   pub hidden-known : hidden m ≡ takesPending m
   hidden-known = ap (λ t. hiddenIf t (takesPending m)) ready
 
-  -- there are no more than cells
-  pub hidden-most : hidden m ≤ 64
-  hidden-most =
-      let few = takeStores-most (m .tail) (pending (m .buffer)) in
-      omega (arith, hidden-known, length-take (m .buffer .count) (m .buffer .stores), pending-within m ready)
-
-  -- ── The worker ──────────────────────────────────────────────────────────────────────────────────────────────────────────────
-
-  -- one more, if the store that it makes lowers the tail
+  -- the worker's entry changes the pending stores, the spacing count, the lock and the worker's call
   pub worker-hidden : (p : Push) (s : Spacing) (l : Holder) (c : WorkerCall) → length (m .buffer .stores) ≡ 64 → pushFits (m .sizes .buffer) p (m .buffer .count)
-      → hidden (withWorker c (withLock l (withSpacing s (withBuffer (pushedIn p (m .buffer)) m))))
-      ≡ hiddenIf (spacingInRange s && pushInRange p && workerInRange c) (cond (pushLowersTail (workerTail m) p) (hidden m + 1) (hidden m))
+      → hidden (withWorker c (withLock l (withSpacing s (withBuffer (pushedIn p (m .buffer)) m)))) ≡ hiddenAfterStore p s (workerInRange c) (look m)
+  unfolding inRange
   worker-hidden p s l c long fits =
       let k = bounds m ready in
-      let cells = fits-more p (m .buffer .count) (k .sizes .buffer-most) fits in
-      let still =
-      worker-ranged m ready (pushedIn p (m .buffer)) s l c (pushed-count p (m .buffer) (k .count) fits)
-      ∙ ap (λ t. spacingInRange s && t && workerInRange c) (pushed-ranged (m .tail) (m .buffer) long p cells ∙ ap (λ t. t && pushInRange p) (k .stores))
-      in
-      let takes = pushed-takes (m .tail) (m .buffer) long p cells ∙ ap (λ n. cond (pushLowersTail (workerTail m) p) (n + 1) n) (sym hidden-known) in
-      λ i. hiddenIf (still i) (takes i)
+      let memory = memoryInRange (m .sizes) (m .head) (m .tail) (pushedIn p (m .buffer)) s in
+      let calls = ap (λ t. workerInRange c && t) (k .thieves) ∙ &&-true (workerInRange c) in
+      ap (λ t. hiddenIf (memory && t) (takeStores (m .tail) (pending (pushedIn p (m .buffer))))) calls ∙ stored-hidden (k .memory) (k .calls) p s (workerInRange c) long fits
 
-  -- ── A thief ─────────────────────────────────────────────────────────────────────────────────────────────────────────────────
-
-  -- as many, while the machine stays in range
+  -- a thief's changes head, the lock and that thief's call
   pub thief-hidden : (i : ℕ) (h : Index) (l : Holder) (c : ThiefCall) → i < length (m .thieves)
-      → hidden (withThief i c (withLock l (withHead h m))) ≡ hiddenIf (indexInRange h && thiefInRange c) (hidden m)
+      → hidden (withThief i c (withLock l (withHead h m))) ≡ hiddenAfterHead h (thiefInRange c) (look m)
+  unfolding inRange
   thief-hidden i h l c there =
-      let still = thief-ranged m ready i h l c there in
-      let takes = sym hidden-known in
-      λ j. hiddenIf (still j) (takes j)
+      let k = bounds m ready in
+      let memory = memoryInRange (m .sizes) h (m .tail) (m .buffer) (m .spacing) in
+      let worker = k .worker in
+      let thieves = all-set (λ t. thiefInRange (t .call)) (m .thieves) i (record { call = c }) there (k .thieves) in
+      (λ j. hiddenIf (memory && (worker j && thieves j)) (takesPending m)) ∙ headed-hidden (k .memory) (k .calls) h (thiefInRange c)
 
-  -- ── The drain ───────────────────────────────────────────────────────────────────────────────────────────────────────────────
-
-  -- one less, if the oldest lowers memory's tail
+  -- a drain changes memory and the pending stores
   pub drained-hidden : 0 < m .buffer .count → m .buffer .count ≤ length (m .buffer .stores)
-      → hidden (drained m) ≡ cond (lowersTail (m .tail) (oldest (m .buffer) .kind)) (hidden m - 1) (hidden m)
-  drained-hidden some within =
-      ap (λ t. hiddenIf t (takesPending (drained m))) (drained-ranged m ready some within)
-      ∙ go (lowersTail (m .tail) (oldest (m .buffer) .kind)) (hidden m) (takesPending (drained m)) (hidden-known ∙ drain-takes (m .tail) (m .buffer) some within)
-    where
-      go : (lowered : Bool) (n k : ℕ) → n ≡ cond lowered 1 0 + k → k ≡ cond lowered (n - 1) n
-      go true n k same = omega arith
-      go false n k same = omega arith
+      → hidden (drained m) ≡ hiddenAfterDrain (m .tail) (oldest (m .buffer) .kind) (look m)
+  unfolding inRange
+  drained-hidden some within = let k = bounds m ready in parts.drained-hidden (k .memory) (k .calls) some within

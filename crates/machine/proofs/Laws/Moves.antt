@@ -1,17 +1,19 @@
 -- Every entry of a party is a move of it: refused, or performed part by part. So the code decides the entries of a party in one place, and knows by the outcome alone that the machine is handed back as it was.
 use mathlib.Core.Path.{_≡_, refl, ap, sym, _∙_}
 use mathlib.Core.List.{_∷_, []}
-use mathlib.Core.Bool.{Bool, true, false, cond, _&&_}
+use mathlib.Core.Bool.{true, cond, _&&_}
 use Prim.Native.Nat.{_≤_, _<_}
 use types.Run.{OneOf, miss}
 use denote.Enum.Declared.{tagOf}
 use lib.Dec.{ltb}
-use borrow.Author.Tests.{lt-ltb, ltb-true}
+use borrow.Author.Tests.{ltb-true}
 use Rattle.terms.proofs.entry.Entry.{the-type}
 use Rattle.terms.specs.Outcome.{isRefusal}
 use Rattle.terms.specs.Sizes.{marginInUse}
-use Rattle.terms.proofs.Laws.Tests.{cond-map, decide, either}
-use Rattle.stores.specs.Spacing.{countedIn, countedInOrSame, takeBegins, tooEarly}
+use Rattle.terms.specs.Kinds.{thiefIsThere, thiefOf}
+use Rattle.terms.proofs.Laws.Kinds.{thief-by-number}
+use Rattle.terms.proofs.Laws.Tests.{and-after, cond-map, decide, either}
+use Rattle.stores.specs.Spacing.{countedIn, countedInOrSame, spacingAfter, takeBegins, tooEarly}
 use Rattle.stores.specs.StoreBuffer.{pushedIn}
 use Rattle.stores.proofs.Laws.Spacing.{countedIn-in-range}
 use Rattle.stores.proofs.Laws.StoreBuffer.{pushFits}
@@ -22,8 +24,8 @@ use Rattle.machine.specs.Worker.{workerRuns}
 use Rattle.machine.specs.Thief.{thiefRuns}
 use Rattle.machine.specs.Update.{withBuffer, withLock, withSpacing, withWorker}
 use Rattle.machine.specs.Perform.{performThief, thiefView, workerView}
-use Rattle.machine.specs.Obey.{obeyInRange, thiefIsThere}
-use Rattle.machine.specs.Moves.{spacingAfter, thiefEntry, thiefOf, workerEntry}
+use Rattle.machine.specs.Obey.{obeyInRange}
+use Rattle.machine.specs.Moves.{thiefEntry, workerEntry}
 use Rattle.machine.proofs.Laws.InRange.{bounds}
 use Rattle.machine.proofs.Laws.Obey.{thief-obeys, worker-obeys}
 use Rattle.machine.proofs.Laws.Worker.{push-fits}
@@ -110,17 +112,4 @@ thief-moves m WorkerStep keys = absurd (miss (5 ∷ 6 ∷ []) 4 tt keys)
 
 -- with sizes in range there is a first thief, so that an entry which names none passes too
 pub there-by-number : (m : Machine) (e : Entry) → (inRange m && ltb (thiefOf e) (m .sizes .thieves)) ≡ (inRange m && thiefIsThere (m .sizes) e)
-there-by-number m e = go (inRange m) refl e
-  where
-    first : inRange m ≡ true → ltb 0 (m .sizes .thieves) ≡ true
-    first ready = lt-ltb 0 (m .sizes .thieves) (bounds m ready .sizes .thieves-least)
-
-    go : (b : Bool) → inRange m ≡ b → (e : Entry) → (b && ltb (thiefOf e) (m .sizes .thieves)) ≡ (b && thiefIsThere (m .sizes) e)
-    go false ready e = refl
-    go true ready Drain = first ready
-    go true ready ClientStore = first ready
-    go true ready (BeginPut x) = first ready
-    go true ready BeginTake = first ready
-    go true ready WorkerStep = first ready
-    go true ready (BeginSteal i) = refl
-    go true ready (ThiefStep i) = refl
+there-by-number m e = and-after (inRange m) (λ ready. thief-by-number (m .sizes) e (bounds m ready .memory .sized))

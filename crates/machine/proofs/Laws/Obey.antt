@@ -7,6 +7,7 @@ use Prim.Native.Nat.{ℕ}
 use lib.Seq.{set-getD}
 use Rattle.terms.specs.Outcome.{isAnswer, isRefusal}
 use Rattle.terms.specs.Sizes.{marginInUse}
+use Rattle.terms.specs.Kinds.{thiefIsThere}
 use Rattle.terms.proofs.Laws.Tests.{by-test, either}
 use Rattle.stores.specs.Spacing.{tooEarly}
 use Rattle.claim.specs.Calls.{isStep, partyOf}
@@ -17,7 +18,7 @@ use Rattle.machine.specs.InRange.{inRange}
 use Rattle.machine.specs.Worker.{atEnd, atOrAboveHead, headIsPast, isFull, stays, workerRuns}
 use Rattle.machine.specs.Update.{withThief, withWorker}
 use Rattle.machine.specs.Thief.{keepsMargin, thiefRuns, idleThief, stays as thiefStays}
-use Rattle.machine.specs.Obey.{HandsOnHidden, OutOfRangeWaits, RefusalKeeps, obey, obeyInRange, thiefIsThere}
+use Rattle.machine.specs.Obey.{HandsOnHidden, OutOfRangeWaits, RefusalKeeps, obey, obeyInRange}
 use Rattle.machine.specs.Linearizable.{ffThe}
 use Rattle.machine.specs.Perform.{viewKeeping, workerView, performWorker, stepOfWorker, stepKeeping, performThief}
 

@@ -11,6 +11,7 @@ use Rattle.terms.specs.Sizes.{neededMargin, sizesInRange}
 use Rattle.terms.proofs.Laws.Lists.{all-each}
 use Rattle.stores.specs.Index.{indexInRange, slotIndexInRange}
 use Rattle.stores.specs.StoreBuffer.{pending, takeStores}
+use Rattle.stores.specs.Look.{memoryInRange}
 use Rattle.stores.proofs.Laws.Index.{idx, idx-in-range, idx-slot-in-range}
 use Rattle.stores.proofs.Laws.Chain.{chain-needed, chain-takeStores}
 use Rattle.claim.specs.Watch.{Watch, watchFresh, watched}
@@ -75,7 +76,7 @@ outside-ranged StealUnlockAbort out = refl
 
 -- a machine of the invariant, after at most 4,096 entries, is in range
 invariant-ranged : {s : Sizes} {n : ℕ} {w : Watch Machine} → Plain s n w → sizesInRange s ≡ true → n ≤ 4096 → inRange (w .machine) ≡ true
-unfolding inRange
+unfolding inRange memoryInRange
 invariant-ranged {w = w} v ranged short =
     let m = w .machine in
     let u = v .sound in

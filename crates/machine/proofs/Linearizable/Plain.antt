@@ -5,6 +5,7 @@ use Prim.Native.Nat.{ℕ, _<_}
 use native.Mathlib.Nat.{zero-add}
 use borrow.Author.Tests.{leb-true, ltb-true}
 use Rattle.terms.specs.Sizes.{enoughMargin, marginInUse, neededMargin}
+use Rattle.terms.specs.Kinds.{thiefIsThere}
 use Rattle.terms.proofs.Laws.Tests.{and-right, decide}
 use Rattle.claim.specs.Calls.{Effect, none, worker, thief, begunBy, partyOf, Begun, nothing, Party, PartyCall}
 use Rattle.claim.specs.Watch.{Watch}
@@ -13,7 +14,7 @@ use Rattle.machine.specs.Types.{Done, Entry, Drain, ClientStore, BeginPu
 use Rattle.machine.specs.Machine.{nothingPending, thiefCall, done}
 use Rattle.machine.specs.InRange.{inRange}
 use Rattle.machine.specs.Update.{withMemory}
-use Rattle.machine.specs.Obey.{obey, obeyInRange, thiefIsThere}
+use Rattle.machine.specs.Obey.{obey, obeyInRange}
 use Rattle.machine.specs.Effect.{effectOf, thiefEffect}
 use Rattle.machine.specs.Entries.{drained}
 use Rattle.machine.proofs.Linearizable.Invariant.{Enough, Invariant, plain, plainTelling, workerBegun}

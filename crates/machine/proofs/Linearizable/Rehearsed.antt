@@ -6,6 +6,7 @@ use mathlib.Core.List.{List, [], _∷_, _++_, map}
 use Prim.Native.Nat.{ℕ}
 use native.Mathlib.Omega.{arith}
 use Rattle.terms.specs.Lists.{occurrences, range}
+use Rattle.stores.specs.Look.{memoryInRange}
 use Rattle.claim.specs.Watch.{events, watchFresh, watched}
 use Rattle.claim.specs.Linearizable.{Linearizable, tasksOf}
 use Rattle.machine.specs.Types.{Abort, BeginTake, Moved, Sizes, Stored, Task}
@@ -16,7 +17,7 @@ use Rattle.machine.specs.Rehearsals.{m2, m2Sizes, m3, m3Sizes}
 
 -- three numbers have been handed out, 12, 11 and again 11, though two puts were STORED
 pub m2-violates : Linearizable ffThe m2Sizes (entriesIn m2) → ⊥
-unfolding inRange
+unfolding inRange memoryInRange
 m2-violates l =
     let e : _≡_ {A = ℕ} 3 2 = l .noOther in
     omega arith
@@ -31,16 +32,16 @@ counted s l = range (watched ffThe (watchFresh ffThe s) (entriesIn l) .queue .st
 -- ── M3: of its two puts the second was taken first ──────────────────────────────────────────────────────────────────────────
 
 m3-account : account m3Sizes m3 ≡ 1 ∷ 0 ∷ []
-unfolding inRange
+unfolding inRange memoryInRange
 m3-account = λ i. 1 ∷ 0 ∷ []
 
 m3-counted : counted m3Sizes m3 ≡ 0 ∷ 1 ∷ []
-unfolding inRange
+unfolding inRange memoryInRange
 m3-counted = λ i. 0 ∷ 1 ∷ []
 
 -- each equation by the list or number that both of its sides compute to
 pub m3-satisfies : Linearizable ffThe m3Sizes (entriesIn m3)
-unfolding inRange
+unfolding inRange memoryInRange
 m3-satisfies =
     record {
       answers = λ i. (Stored ∷ []) ∷ (Stored ∷ []) ∷ (Task 12 ∷ []) ∷ (Task 11 ∷ []) ∷ (Abort ∷ []) ∷ [];
@@ -57,15 +58,15 @@ abbrev taking : List Line
 taking = filled 2 ++ does BeginTake Moved ∷ workerMoves 2
 
 taking-account : account m3Sizes taking ≡ 1 ∷ 0 ∷ []
-unfolding inRange
+unfolding inRange memoryInRange
 taking-account = λ i. 1 ∷ 0 ∷ []
 
 taking-counted : counted m3Sizes taking ≡ 0 ∷ 1 ∷ []
-unfolding inRange
+unfolding inRange memoryInRange
 taking-counted = λ i. 0 ∷ 1 ∷ []
 
 pub taking-satisfies : Linearizable ffThe m3Sizes (entriesIn taking)
-unfolding inRange
+unfolding inRange memoryInRange
 taking-satisfies =
     record {
       answers = λ i. (Stored ∷ []) ∷ (Stored ∷ []) ∷ [];
@@ -79,15 +80,15 @@ taking-satisfies =
 -- ── Two tasks that stand ────────────────────────────────────────────────────────────────────────────────────────────────────
 
 twoStand-account : account m3Sizes (filled 2) ≡ 0 ∷ 1 ∷ []
-unfolding inRange
+unfolding inRange memoryInRange
 twoStand-account = λ i. 0 ∷ 1 ∷ []
 
 twoStand-counted : counted m3Sizes (filled 2) ≡ 0 ∷ 1 ∷ []
-unfolding inRange
+unfolding inRange memoryInRange
 twoStand-counted = λ i. 0 ∷ 1 ∷ []
 
 pub twoStand-satisfies : Linearizable ffThe m3Sizes (entriesIn (filled 2))
-unfolding inRange
+unfolding inRange memoryInRange
 twoStand-satisfies =
     record {
       answers = λ i. (Stored ∷ []) ∷ (Stored ∷ []) ∷ [];

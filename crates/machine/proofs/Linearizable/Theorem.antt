@@ -14,6 +14,7 @@ use Rattle.terms.proofs.Laws.Tests.{and-left, and-right}
 use Rattle.terms.proofs.Laws.Sizes.{SizeBounds, marginInUse-some, sizes-bounds}
 use Rattle.terms.proofs.Laws.Lists.{all-map, all-range}
 use Rattle.stores.specs.Index.{indexInRange, next}
+use Rattle.stores.specs.Load.{loadedBetween, stepsUp}
 use Rattle.stores.proofs.Laws.Index.{idx, idx-as, idx-in-range, idx-minus, idx-next, idx-of, idx-plus}
 use Rattle.stores.proofs.Laws.Chain.{none}
 use Rattle.stores.proofs.Laws.Pending.{seen-tail}
@@ -24,7 +25,7 @@ use Rattle.claim.proofs.Theorem.{Shows, linearizes, run-keeps}
 use Rattle.machine.specs.Types.{Entry, Holder, Nobody, TheWorker, TheThief, Index, Machine, Outcome, Abort, Sizes, ThiefCall, StealLock, StealLoadHead, StealRaiseHead, StealLoadTail, StealLoadSlot, StealUnlockTask, StealRestoreHead, StealUnlockAbort, WorkerCall, PutLoadHead, PutStoreSlot, PutStoreTail, TakeStoreTail, TakeLoadHead, TakeLoadSlot, TakeLock, TakeReloadHead, TakeRestoreTail, TakeUnlockEmpty, TakeUnlockTask, TakeLoadLastSlot}
 use Rattle.machine.specs.Thief.{idleThief}
 use Rattle.machine.specs.Machine.{fresh, thiefCall, workerLoad, workerTail}
-use Rattle.machine.specs.Linearizable.{Demand3, StandsNow, callInside, ffThe, headBefore, loadedBetween, owes, standingInSlots, standingNow, stepsUp, tailBefore, thiefOwes}
+use Rattle.machine.specs.Linearizable.{Demand3, StandsNow, callInside, ffThe, headBefore, owes, standingInSlots, standingNow, tailBefore, thiefOwes}
 use Rattle.machine.proofs.Laws.Obey.{ffThe-lawful}
 use Rattle.machine.proofs.Linearizable.Invariant.{Exclusive, Environment, HeadState, HoldsTail, plainMemory, InPlace, Invariant, Sound, holds, lowered, outside, raised, stolen, thiefBegun, workerBegun}
 use Rattle.claim.proofs.Laws.Tasks.{shows-list}
@@ -153,7 +154,7 @@ inside-is m (TheThief i) working k p x place = subst (λ b. InPlace b k i p (thi
 module _ {E : Type 0} {s : Sizes} {n : ℕ} {g : Environment} {m : Machine} {q : PlainQueue} {cs : Party → PartyCall} (v : Invariant E s n g m q cs) (enough : E) where
   -- the tasks lie between the oldest and the queue's tail
   shown-between : (from to : Index) → from ≡ idx (v .sound .head .lo + stolen (v .inside)) → to ≡ idx (v .sound .buffer .seen + lowered (m .worker .call))
-      → map (λ t. t .number) (q .tasks) ≡ loadedBetween m from to
+      → map (λ t. t .number) (q .tasks) ≡ loadedBetween (workerLoad m) from to
   shown-between from to low high =
       let a : ℕ = v .sound .head .lo + stolen (v .inside) in
       let b : ℕ = v .sound .buffer .seen + lowered (m .worker .call) in

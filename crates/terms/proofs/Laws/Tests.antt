@@ -52,6 +52,11 @@ pub and-right : (a b : Bool) → (a && b) ≡ true → b ≡ true
 and-right true b p = p
 and-right false b p = absurd (false≢true p)
 
+-- a second test behind one that has to pass first
+pub and-after : (t : Bool) {a b : Bool} → (t ≡ true → a ≡ b) → (t && a) ≡ (t && b)
+and-after true same = same refl
+and-after false same = refl
+
 pub eqb-comm : (j k : ℕ) → eqb j k ≡ eqb k j
 eqb-comm j k = go (eqb k j) refl
   where

@@ -7,7 +7,7 @@ returns : tie.Need-returns
 returns c = simp (c .enum-told .given .1)
 
 returns-2 : tie.Need-returns-2
-returns-2 c = simp (c .worker-load .ensures, c .before .before .load .given .1)
+returns-2 c = simp (c .worker-load .ensures, c .before .before .before .before .load .given .1)
 
 pub worker-loads-spec : {M : Type 1} → statement M
-worker-loads-spec = tie.close (tie.spec (λ c. search needs) (λ c. search needs) (λ c κs. search needs) returns returns-2)
+worker-loads-spec = tie.close (tie.spec (λ c. search needs) returns (λ c. search needs) (λ c κs. search needs) returns-2)

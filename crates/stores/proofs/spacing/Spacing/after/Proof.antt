@@ -1,4 +1,4 @@
--- `spacing_after` meets its contract, entry by entry.
+-- `Spacing::after` meets its contract, entry by entry.
 use mathlib.Core.Path.{_≡_, refl, _∙_}
 use mathlib.Core.List.{List, [], _∷_}
 use Prim.Native.Nat.{ℕ}
@@ -6,11 +6,10 @@ use types.Run.{OneOf, miss}
 use denote.Enum.Declared.{tagOf}
 use borrow.Author.Needs.{needs}
 use Rattle.terms.proofs.entry.Entry.{the-type}
-use Rattle.stores.specs.Spacing.{countedInOrSame}
-use Rattle.machine.specs.Types.{Entry, Drain, ClientStore, BeginPut, BeginTake, WorkerStep, BeginSteal, ThiefStep, Push, Spacing}
-use Rattle.machine.specs.Moves.{spacingAfter}
-use Rattle.machine.proofs.moves.spacing_after.Statement.{statement}
-use Rattle.machine.proofs.moves.spacing_after.Tie as tie
+use Rattle.stores.specs.Types.{Entry, Drain, ClientStore, BeginPut, BeginTake, WorkerStep, BeginSteal, ThiefStep, Push, Spacing}
+use Rattle.stores.specs.Spacing.{countedInOrSame, spacingAfter}
+use Rattle.stores.proofs.spacing.Spacing.after.Statement.{statement}
+use Rattle.stores.proofs.spacing.Spacing.after.Tie as tie
 
 -- the entries that begin no take, by the numbers of their variants
 abbrev others : List ℕ
@@ -28,7 +27,7 @@ goes-by-store (ThiefStep i) made spacing keys = refl
 returns-2 : tie.Need-returns-2
 returns-2 c =
     let given = c .before .before .args in
-    c .counted-in .ensures ∙ goes-by-store (given .entry) (given .made) (given .spacing) (c .before .match .keys2)
+    c .counted-in .ensures ∙ goes-by-store (given .entry) (given .made) (given .self) (c .before .match .keys2)
 
-pub spacing-after-spec : {M : Type 1} → statement M
-spacing-after-spec = tie.close (tie.spec (λ c. search needs) (λ c κs. search needs) (λ c κs. search needs) (λ c. search needs) returns-2)
+pub after-spec : {M : Type 1} → statement M
+after-spec = tie.close (tie.spec (λ c. search needs) (λ c κs. search needs) (λ c κs. search needs) (λ c. search needs) returns-2)
