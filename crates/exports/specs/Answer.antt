@@ -10,9 +10,9 @@ use Rattle.schedule.specs.declared.runner.Running.the-variants as running
 use Rattle.share_sheet.specs.declared.sheet.Sheet.the-variants as sheet
 use Rattle.writer.specs.declared.writer.Writing.the-variants as writing
 use Rattle.schedule.specs.Reader.{readFile, refusalOf}
-use Rattle.schedule.specs.Run.{runFile, traceAfter}
+use Rattle.schedule.specs.Run.{runFileOn, traceAfterOn}
 use Rattle.number.specs.Number.{wordPut}
-use Rattle.exports.specs.Types.{Accepted, Alike, FirstRefused, Likeness, NotAlike, Ran, Reading, Refusal, Room, Running, SecondRefused, Sheet, Sizes, Summary, Writing, Written}
+use Rattle.exports.specs.Types.{Accepted, Alike, FirstRefused, Likeness, NotAlike, Queue, Ran, Reading, Refusal, Room, Running, SecondRefused, Sheet, Sizes, Summary, Writing, Written}
 
 -- a refusal as one number of 64 bits: its number in the upper half, and in the lower the 32 lowest bits of its place. Places are below 4,096, so that is the place.
 abbrev pub refusalAnswer : Refusal → ℕ
@@ -44,9 +44,9 @@ sizesAfter (reading.Refused r) bytes = bytes
 
 -- ── Running ─────────────────────────────────────────────────────────────────────────────────────────────────────────────────
 
--- the answer of a run into a trace buffer of so many bytes; 16 bytes are to be lent for the totals, or nothing is run
-abbrev pub runInto : List ℕ → ℕ → List ℕ → Running
-runInto file room totals = cond (tooFew 16 totals) (running.Refused (refusalOf (readFile file))) (runFile file room)
+-- the answer of a queue's run into a trace buffer of so many bytes; 16 bytes are to be lent for the totals, or nothing is run
+abbrev pub runInto : Queue → List ℕ → ℕ → List ℕ → Running
+runInto q file room totals = cond (tooFew 16 totals) (running.Refused (refusalOf (readFile file))) (runFileOn q file room)
 
 -- 0, or the refusal
 abbrev pub runningAnswer : Running → ℕ
@@ -62,8 +62,8 @@ abbrev pub totalsAfter : Running → List ℕ → List ℕ
 totalsAfter (Ran t) bytes = summaryPut t bytes
 totalsAfter (running.Refused r) bytes = bytes
 
-abbrev pub traceInto : List ℕ → List ℕ → List ℕ → List ℕ
-traceInto file trace totals = cond (tooFew 16 totals) trace (traceAfter file trace)
+abbrev pub traceInto : Queue → List ℕ → List ℕ → List ℕ → List ℕ
+traceInto q file trace totals = cond (tooFew 16 totals) trace (traceAfterOn q file trace)
 
 -- ── Comparing ───────────────────────────────────────────────────────────────────────────────────────────────────────────────
 

@@ -4,6 +4,8 @@ pub use Rattle.terms.specs.declared.refusal.Refusal.the-variants.{Room}
 pub use Rattle.terms.specs.declared.sizes.Sizes.{Sizes}
 pub use Rattle.schedule.specs.declared.reader.Reading.{Reading}
 pub use Rattle.schedule.specs.declared.reader.Reading.the-variants.{Accepted}
+pub use Rattle.schedule.specs.declared.runner.Queue.{Queue}
+pub use Rattle.schedule.specs.declared.runner.Queue.the-variants.{FfThe, FfCl}
 pub use Rattle.schedule.specs.declared.runner.Running.{Running}
 pub use Rattle.schedule.specs.declared.runner.Running.the-variants.{Ran}
 pub use Rattle.schedule.specs.declared.runner.Summary.{Summary}

@@ -5,17 +5,19 @@ ghost use Rattle.schedule.specs.Reader.{readFile};
 ghost use Rattle.share_sheet.specs.Sheet.{sheetAfter, makeSheet};
 ghost use Rattle.terms.specs.Sizes.{neededMargin, sized};
 ghost use Rattle.writer.specs.Writer.{bufferAfter, writeFile};
+ghost use Rattle.exports.specs.Types.{FfCl, FfThe};
 ghost use Rattle.exports.specs.Answer.{likenessAnswer, readingAnswer, runInto, runningAnswer, sheetAnswer, sizesAfter, totalsAfter, traceInto, writingAnswer};
 use crate::answer::answer_of;
 use crate::answer::likeness_of;
 use crate::answer::put_sizes;
 use crate::answer::put_summary;
 use comparison::alike;
+use schedule::Queue;
 use schedule::Reading;
 use schedule::Running;
 use schedule::read;
 use schedule::refusal_of;
-use schedule::run;
+use schedule::run_on;
 use share_sheet::Sheet;
 use share_sheet::share_sheet;
 use terms::Refusal;
@@ -41,18 +43,16 @@ pub extern "C" fn rehearsal_read(file: &[u8], sizes: &mut [u8]) -> u64
     entries as u64
 }
 
-// Runs a schedule file and writes its trace. Tells 0, and puts the totals, given, aborts and waits, and beside them how far memory lagged at most, hidden, into the 16 bytes that are
-// lent for them; with fewer, it is ROOM, and nothing is run.
-#[no_mangle]
-pub extern "C" fn rehearsal_run(file: &[u8], trace: &mut [u8], totals: &mut [u8]) -> u64
-    ensures { λ r. ⌜ r ≡ runningAnswer (runInto (now (file .entry)) (length (now (trace .entry))) (now (totals .entry))) ⌝ }
-    ensures { λ _. ⌜ now (trace .exit) ≡ traceInto (now (file .entry)) (now (trace .entry)) (now (totals .entry)) ⌝ }
-    ensures { λ _. ⌜ now (totals .exit) ≡ totalsAfter (runInto (now (file .entry)) (length (now (trace .entry))) (now (totals .entry))) (now (totals .entry)) ⌝ }
+// Runs a schedule file on the queue that is named, as the two functions below tell it.
+fn run_into(queue: Queue, file: &[u8], trace: &mut [u8], totals: &mut [u8]) -> u64
+    ensures { λ r. ⌜ r ≡ runningAnswer (runInto queue (now (file .entry)) (length (now (trace .entry))) (now (totals .entry))) ⌝ }
+    ensures { λ _. ⌜ now (trace .exit) ≡ traceInto queue (now (file .entry)) (now (trace .entry)) (now (totals .entry)) ⌝ }
+    ensures { λ _. ⌜ now (totals .exit) ≡ totalsAfter (runInto queue (now (file .entry)) (length (now (trace .entry))) (now (totals .entry))) (now (totals .entry)) ⌝ }
 {
     if totals.len() < 16 {
         return answer_of(refusal_of(read(file)));
     }
-    let running = run(file, trace);
+    let running = run_on(queue, file, trace);
     match running {
         Running::Ran(summary) => {
             put_summary(totals, summary);
@@ -60,6 +60,27 @@ pub extern "C" fn rehearsal_run(file: &[u8], trace: &mut [u8], totals: &mut [u8]
         }
         Running::Refused(refusal) => answer_of(refusal),
     }
+}
+
+// Runs a schedule file and writes its trace. Tells 0, and puts the totals, given, aborts and waits, and beside them how far memory lagged at most, hidden, into the 16 bytes that are
+// lent for them; with fewer, it is ROOM, and nothing is run.
+#[no_mangle]
+pub extern "C" fn rehearsal_run(file: &[u8], trace: &mut [u8], totals: &mut [u8]) -> u64
+    ensures { λ r. ⌜ r ≡ runningAnswer (runInto FfThe (now (file .entry)) (length (now (trace .entry))) (now (totals .entry))) ⌝ }
+    ensures { λ _. ⌜ now (trace .exit) ≡ traceInto FfThe (now (file .entry)) (now (trace .entry)) (now (totals .entry)) ⌝ }
+    ensures { λ _. ⌜ now (totals .exit) ≡ totalsAfter (runInto FfThe (now (file .entry)) (length (now (trace .entry))) (now (totals .entry))) (now (totals .entry)) ⌝ }
+{
+    run_into(Queue::FfThe, file, trace, totals)
+}
+
+// The same on the compare-and-swap queue.
+#[no_mangle]
+pub extern "C" fn rehearsal_cas_run(file: &[u8], trace: &mut [u8], totals: &mut [u8]) -> u64
+    ensures { λ r. ⌜ r ≡ runningAnswer (runInto FfCl (now (file .entry)) (length (now (trace .entry))) (now (totals .entry))) ⌝ }
+    ensures { λ _. ⌜ now (trace .exit) ≡ traceInto FfCl (now (file .entry)) (now (trace .entry)) (now (totals .entry)) ⌝ }
+    ensures { λ _. ⌜ now (totals .exit) ≡ totalsAfter (runInto FfCl (now (file .entry)) (length (now (trace .entry))) (now (totals .entry))) (now (totals .entry)) ⌝ }
+{
+    run_into(Queue::FfCl, file, trace, totals)
 }
 
 // Compares two schedule files. Tells 1 where they are alike, and 0 where they are not.

@@ -17,6 +17,7 @@
 //
 //     uint64_t rehearsal_read(const uint8_t *file, size_t bytes, uint8_t *sizes, size_t sizes_room);
 //     uint64_t rehearsal_run(const uint8_t *file, size_t bytes, uint8_t *trace, size_t trace_room, uint8_t *totals, size_t totals_room);
+//     uint64_t rehearsal_cas_run(const uint8_t *file, size_t bytes, uint8_t *trace, size_t trace_room, uint8_t *totals, size_t totals_room);
 //     uint64_t rehearsal_alike(const uint8_t *first, size_t first_bytes, const uint8_t *second, size_t second_bytes);
 //     uint64_t rehearsal_write(uint32_t slots, uint32_t buffer, uint32_t spacing, uint32_t margin, uint32_t thieves, uint32_t start,
 //                              const uint8_t *kinds, size_t kind_count, const uint32_t *operands, size_t operand_count,
@@ -30,6 +31,7 @@ mod answer;
 mod interface;
 
 pub use interface::rehearsal_alike;
+pub use interface::rehearsal_cas_run;
 pub use interface::rehearsal_needed_margin;
 pub use interface::rehearsal_read;
 pub use interface::rehearsal_run;

@@ -69,20 +69,20 @@ overlong-read file long = go (rangesIn file) refl
         (λ i. readingOf file (first (enough i ∷ ranges i ∷ too-long (few-entries (sizesIn file) n ranges) i ∷ entries ∷ [])))
         ∙ sym (ap (λ c. reading.Refused (overlong c)) ranges)
 
-overlong-line : (file : List ℕ) → 20508 < length file → linesOf file ≡ refusalLine (overlong (rangesIn file))
-overlong-line file long = ap (linesFor file) (overlong-read file long)
+overlong-line : (q : Queue) (file : List ℕ) → 20508 < length file → linesOf q file ≡ refusalLine (overlong (rangesIn file))
+overlong-line q file long = ap (linesFor q file) (overlong-read file long)
 
 pub beginning-decides : BeginningDecides
-beginning-decides input = go (ltb 20509 (length input)) refl
+beginning-decides q input = go (ltb 20509 (length input)) refl
   where
-    go : (longer : Bool) → ltb 20509 (length input) ≡ longer → linesOf (take 20509 input) ≡ linesOf input
+    go : (longer : Bool) → ltb 20509 (length input) ≡ longer → linesOf q (take 20509 input) ≡ linesOf q input
     go true p =
         let front = take 20509 input in
         let rest = drop 20509 input in
         let whole = take-append-drop 20509 input in
         let long = ltb-true 20509 (length input) p in
         let front-long : length front ≡ 20509 = length-take-le 20509 input (omega arith) in
-        overlong-line front (omega arith)
+        overlong-line q front (omega arith)
         ∙ ap (λ c. refusalLine (overlong c)) (sym (ranges-front front rest (omega arith)) ∙ ap rangesIn whole)
-        ∙ sym (overlong-line input (omega arith))
-    go false p = ap linesOf (take-all 20509 input (ltb-false 20509 (length input) p))
+        ∙ sym (overlong-line q input (omega arith))
+    go false p = ap (linesOf q) (take-all 20509 input (ltb-false 20509 (length input) p))

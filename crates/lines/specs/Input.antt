@@ -4,7 +4,8 @@ use mathlib.Core.Path.{_≡_}
 use mathlib.Core.List.{List}
 use Prim.Native.Nat.{ℕ}
 use lib.ListN.{take}
+use Rattle.lines.specs.Types.{Queue}
 use Rattle.lines.specs.Lines.{linesOf}
 
 abbrev pub BeginningDecides : Type 0
-BeginningDecides = (input : List ℕ) → linesOf (take 20509 input) ≡ linesOf input
+BeginningDecides = (q : Queue) (input : List ℕ) → linesOf q (take 20509 input) ≡ linesOf q input

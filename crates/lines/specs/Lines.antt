@@ -1,4 +1,4 @@
--- What is printed for a file. Renders "The program's lines" and, of request 4 in 02, what the last line of "rehearse" gains at its end.
+-- What is printed for a file, by the program of each queue. Renders "The program's lines" and, of request 4 in 02, what the last line of "rehearse" gains at its end. Programs of later requests print 01's lines as they stand, so that of FF-CL does (request 5).
 use mathlib.Core.Bool.{cond}
 use mathlib.Core.List.{List, [], _∷_, _++_}
 use Prim.Native.Nat.{ℕ, _+_}
@@ -7,8 +7,8 @@ use Rattle.terms.specs.Refusal as refusal
 use Rattle.terms.specs.Sizes.{enoughMargin, marginInUse}
 use Rattle.schedule.specs.declared.reader.Reading.the-variants as reading
 use Rattle.schedule.specs.Reader.{readFile}
-use Rattle.schedule.specs.Run.{outcomesIn, summaryIn}
-use Rattle.lines.specs.Types.{Accepted, Outcome, Reading, Refusal, Sizes, Summary, Tally}
+use Rattle.schedule.specs.Run.{outcomesInOn, summaryInOn}
+use Rattle.lines.specs.Types.{Accepted, FfCl, FfThe, Outcome, Queue, Reading, Refusal, Sizes, Summary, Tally}
 use Rattle.lines.specs.Text.{ascii, decimal, line}
 
 -- whether the margin in use is at least the needed one
@@ -45,19 +45,24 @@ totalsWords t = ascii "given" ∷ decimal (t .given) ∷ ascii "aborts" ∷ deci
 abbrev pub lastLine : Summary → List ℕ
 lastLine t = line (totalsWords (t .tally) ++ (ascii "hidden" ∷ decimal (t .hidden) ∷ []))
 
+-- the last line, by the queue that is run
+abbrev pub lastLineOn : Queue → Summary → List ℕ
+lastLineOn FfThe t = lastLine t
+lastLineOn FfCl t = line (totalsWords (t .tally))
+
 -- the only line of a refused file
 abbrev pub refusalLine : Refusal → List ℕ
 refusalLine r = line (ascii "refused" ∷ decimal (refusal.numberOf r) ∷ ascii "place" ∷ decimal (refusal.placeOf r) ∷ [])
 
--- the lines of a run with these outcomes and this summary
-abbrev pub runLines : Sizes → List Outcome → Summary → List ℕ
-runLines s os t = sizesLine s ++ entryLines 0 os ++ lastLine t
+-- the lines of a queue's run with these outcomes and this summary
+abbrev pub runLines : Queue → Sizes → List Outcome → Summary → List ℕ
+runLines q s os t = sizesLine s ++ entryLines 0 os ++ lastLineOn q t
 
 -- all lines, by the reader's answer
-abbrev pub linesFor : List ℕ → Reading → List ℕ
-linesFor file (Accepted s entries) = runLines s (outcomesIn file) (summaryIn file)
-linesFor file (reading.Refused r) = refusalLine r
+abbrev pub linesFor : Queue → List ℕ → Reading → List ℕ
+linesFor q file (Accepted s entries) = runLines q s (outcomesInOn q file) (summaryInOn q file)
+linesFor q file (reading.Refused r) = refusalLine r
 
--- what the program prints for a file
-abbrev pub linesOf : List ℕ → List ℕ
-linesOf file = linesFor file (readFile file)
+-- what the program of a queue prints for a file
+abbrev pub linesOf : Queue → List ℕ → List ℕ
+linesOf q file = linesFor q file (readFile file)

@@ -5,4 +5,6 @@ pub use Rattle.terms.specs.declared.sizes.Sizes.{Sizes}
 pub use Rattle.terms.specs.declared.tally.Tally.{Tally}
 pub use Rattle.schedule.specs.declared.reader.Reading.{Reading}
 pub use Rattle.schedule.specs.declared.reader.Reading.the-variants.{Accepted}
+pub use Rattle.schedule.specs.declared.runner.Queue.{Queue}
+pub use Rattle.schedule.specs.declared.runner.Queue.the-variants.{FfThe, FfCl}
 pub use Rattle.schedule.specs.declared.runner.Summary.{Summary}

@@ -4,19 +4,20 @@ ghost use Prim.Native.Nat.{_+_, _*_, _≤_, _<_};
 ghost use lib.ListN.{length, replicate};
 ghost use Rattle.number.specs.Number.{overwritten};
 ghost use Rattle.schedule.specs.Format.{wordsIn};
-ghost use Rattle.schedule.specs.Run.{outcomesFrom, summaryFrom};
+ghost use Rattle.schedule.specs.Run.{outcomesFromOn, summaryFromOn};
 ghost use Rattle.lines.specs.FromTrace.{linesFromTrace, threeNumbers};
-ghost use Rattle.lines.specs.Lines.{lastLine, linesOf, marginWord, refusalLine, runLines, sizesLine, totalsWords};
+ghost use Rattle.lines.specs.Lines.{lastLine, lastLineOn, linesOf, marginWord, refusalLine, runLines, sizesLine, totalsWords};
 ghost use Rattle.lines.specs.Text.{joined, line};
 ghost use Rattle.terms.specs.Refusal.{placeOf};
 use crate::text::put_bytes;
 use crate::text::put_number;
 use number::word_at;
 use schedule::LONGEST_TRACE;
+use schedule::Queue;
 use schedule::Reading;
 use schedule::Summary;
 use schedule::kind_part;
-use schedule::obey_entries;
+use schedule::obey_entries_on;
 use schedule::operand_part;
 use schedule::read;
 use schedule::refusal_of;
@@ -122,6 +123,19 @@ fn put_summary(text: &mut [u8], at: usize, summary: Summary) -> usize
     put_number(text, end, summary.hidden, NEWLINE)
 }
 
+// Puts the last line of the queue that is run. Answers where it ends.
+fn put_last(text: &mut [u8], at: usize, queue: Queue, summary: Summary) -> usize
+    requires { ⌜ at + 70 ≤ length (now text) ⌝ }
+    ensures { λ r. ⌜ (r ≡ at + length (lastLineOn queue summary)) × (r ≤ at + 70) ⌝ }
+    ensures { λ _. ⌜ now (text .exit) ≡ overwritten at (lastLineOn queue summary) (now (text .entry)) ⌝ }
+{
+    let tally = summary.tally;
+    match queue {
+        Queue::FfThe => return put_summary(text, at, summary),
+        Queue::FfCl => return put_totals(text, at, tally, NEWLINE),
+    }
+}
+
 // Puts the line of a refused file, at the front. Answers where it ends.
 fn put_refusal(text: &mut [u8], refusal: Refusal) -> usize
     requires { ⌜ (36 ≤ length (now text)) × (placeOf refusal < 4294967296) ⌝ }
@@ -137,23 +151,23 @@ fn put_refusal(text: &mut [u8], refusal: Refusal) -> usize
 }
 
 // Runs a file that was read, by its sizes and its two parts, and puts its lines. Answers where they end.
-fn put_run(text: &mut [u8], sizes: Sizes, kinds: &[u8], operands: &[u8]) -> usize
+fn put_run(text: &mut [u8], queue: Queue, sizes: Sizes, kinds: &[u8], operands: &[u8]) -> usize
     requires { ⌜ (135311 ≤ length (now text)) × (length (now kinds) ≤ 4096) ⌝ }
-    ensures { λ r. ⌜ (r ≡ length (runLines sizes (outcomesFrom sizes (now (kinds .entry)) (wordsIn (now (operands .entry)))) (summaryFrom sizes (now (kinds .entry)) (wordsIn (now (operands .entry)))))) × (r ≤ 135311) ⌝ }
-    ensures { λ _. ⌜ now (text .exit) ≡ overwritten 0 (runLines sizes (outcomesFrom sizes (now (kinds .entry)) (wordsIn (now (operands .entry)))) (summaryFrom sizes (now (kinds .entry)) (wordsIn (now (operands .entry))))) (now (text .entry)) ⌝ }
+    ensures { λ r. ⌜ (r ≡ length (runLines queue sizes (outcomesFromOn queue sizes (now (kinds .entry)) (wordsIn (now (operands .entry)))) (summaryFromOn queue sizes (now (kinds .entry)) (wordsIn (now (operands .entry)))))) × (r ≤ 135311) ⌝ }
+    ensures { λ _. ⌜ now (text .exit) ≡ overwritten 0 (runLines queue sizes (outcomesFromOn queue sizes (now (kinds .entry)) (wordsIn (now (operands .entry)))) (summaryFromOn queue sizes (now (kinds .entry)) (wordsIn (now (operands .entry))))) (now (text .entry)) ⌝ }
 {
     let mut trace = [0; LONGEST_TRACE];
-    let summary = obey_entries(sizes, kinds, operands, &mut trace);
+    let summary = obey_entries_on(queue, sizes, kinds, operands, &mut trace);
     let first = put_sizes(text, sizes);
     let last = put_entries(text, first, kinds.len(), &trace);
-    put_summary(text, last, summary)
+    put_last(text, last, queue, summary)
 }
 
-// Puts what the program prints for a file. Answers where it ends.
-fn put_lines(text: &mut [u8], file: &[u8]) -> usize
+// Puts what the program of a queue prints for a file. Answers where it ends.
+fn put_lines(text: &mut [u8], queue: Queue, file: &[u8]) -> usize
     requires { ⌜ 135311 ≤ length (now text) ⌝ }
-    ensures { λ r. ⌜ (r ≡ length (linesOf (now (file .entry)))) × (r ≤ 135311) ⌝ }
-    ensures { λ _. ⌜ now (text .exit) ≡ overwritten 0 (linesOf (now (file .entry))) (now (text .entry)) ⌝ }
+    ensures { λ r. ⌜ (r ≡ length (linesOf queue (now (file .entry)))) × (r ≤ 135311) ⌝ }
+    ensures { λ _. ⌜ now (text .exit) ≡ overwritten 0 (linesOf queue (now (file .entry))) (now (text .entry)) ⌝ }
 {
     let reading = read(file);
     let Reading::Accepted(sizes, _) = reading else {
@@ -161,16 +175,16 @@ fn put_lines(text: &mut [u8], file: &[u8]) -> usize
     };
     let kinds = kind_part(file, reading);
     let operands = operand_part(file, reading);
-    put_run(text, sizes, kinds, operands)
+    put_run(text, queue, sizes, kinds, operands)
 }
 
-// What the program prints for a file.
-pub fn lines_of(file: &[u8]) -> Text
-    ensures { λ r. ⌜ (r .length ≡ length (linesOf (now (file .entry)))) × (r .length ≤ length (r .bytes)) ⌝ }
-    ensures { λ r. ⌜ r .bytes ≡ overwritten 0 (linesOf (now (file .entry))) (replicate 135311 0) ⌝ }
+// What the program of a queue prints for a file.
+pub fn lines_of(queue: Queue, file: &[u8]) -> Text
+    ensures { λ r. ⌜ (r .length ≡ length (linesOf queue (now (file .entry)))) × (r .length ≤ length (r .bytes)) ⌝ }
+    ensures { λ r. ⌜ r .bytes ≡ overwritten 0 (linesOf queue (now (file .entry))) (replicate 135311 0) ⌝ }
 {
     let mut bytes = [0; TEXT_ROOM];
-    let length = put_lines(&mut bytes, file);
+    let length = put_lines(&mut bytes, queue, file);
     Text {
         bytes: bytes,
         length: length,

@@ -19,6 +19,7 @@ use image::put_machine;
 use number::put_word;
 use number::word_at;
 use schedule::Check;
+use schedule::Queue;
 use terms::Sizes;
 use terms::Tally;
 
@@ -132,9 +133,9 @@ fn answer_parts(file: &[u8]) {
     io::write_all(1, operands);
 }
 
-// `l`, the lines that are printed for a file.
-fn answer_lines(file: &[u8]) {
-    let text = lines::lines_of(file);
+// `l` and `s`, the lines that are printed for a file, by the program of the queue with a lock and by that of the one with compare-and-swap.
+fn answer_lines(queue: Queue, file: &[u8]) {
+    let text = lines::lines_of(queue, file);
     let end = text.length;
     let bytes = text.bytes;
     write_length(end);
@@ -148,7 +149,8 @@ fn answer(name: u8, request: &[u8]) {
         b'e' => answer_entry(request),
         b'c' => answer_check(request),
         b'p' => answer_parts(request),
-        b'l' => answer_lines(request),
+        b'l' => answer_lines(Queue::FfThe, request),
+        b's' => answer_lines(Queue::FfCl, request),
         _ => write_length(0),
     }
 }

@@ -7,12 +7,13 @@ use Rattle.claim.specs.Calls.{answersTo}
 use Rattle.claim.specs.Implementation.{Implementation}
 use Rattle.claim.specs.Watch.{Event, events, watchFresh}
 use Rattle.claim.specs.Linearizable.{Linearizable, answering}
+use Rattle.cas.specs.Linearizable.{ffCl}
 use Rattle.machine.specs.Linearizable.{ffThe}
 use Rattle.properties.specs.ExactlyOnce.{ExactlyOnce}
 use Rattle.terms.specs.Lists.{concatMap, range}
 use Rattle.terms.specs.Outcome.{isAnswerNumber}
 use Rattle.terms.specs.Sizes.{enoughMargin}
-use Rattle.schedule.specs.Types.{Entry, Ran, Running, Sizes, Summary}
+use Rattle.schedule.specs.Types.{Entry, FfCl, FfThe, Queue, Ran, Running, Sizes, Summary}
 use Rattle.schedule.specs.Format.{entriesIn, sizesIn}
 use Rattle.schedule.specs.Run.{scheduleIn}
 use Rattle.schedule.specs.Trace.{Line, lineIn, lineOf}
@@ -52,6 +53,11 @@ module _ {M : Type 0} (b : Implementation M Entry) where
 -- .. by FF-THE
 abbrev pub RunLinearizes : List ℕ → List ℕ → Running → Type 0
 RunLinearizes = RunLinearizesBy ffThe
+
+-- .. by the queue that is named
+abbrev pub RunLinearizesOn : Queue → List ℕ → List ℕ → Running → Type 0
+RunLinearizesOn FfThe = RunLinearizesBy ffThe
+RunLinearizesOn FfCl = RunLinearizesBy ffCl
 
 -- FF-THE's plain queue is told of every call, so each answer in the bytes is the plain queue's. Proved in `proofs/FfThe.antt`.
 abbrev pub AllTold : Type 0

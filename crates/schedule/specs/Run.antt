@@ -14,9 +14,10 @@ use Rattle.terms.specs.Sizes.{sizesInRange}
 use Rattle.claim.specs.Implementation.{Implementation}
 use Rattle.claim.specs.Run.{hiddenOf, machineAfter, outcomesOf}
 use Rattle.machine.specs.Linearizable.{ffThe}
+use Rattle.cas.specs.Linearizable.{ffCl}
 use Rattle.machine.specs.Machine.{done, fresh}
 use Rattle.machine.specs.Obey.{obey}
-use Rattle.schedule.specs.Types.{Accepted, Entry, Machine, Outcome, Ran, Reading, Refusal, Room, Running, Sizes, Stepped, Summary, Tally}
+use Rattle.schedule.specs.Types.{Accepted, Entry, FfCl, FfThe, Machine, Outcome, Queue, Ran, Reading, Refusal, Room, Running, Sizes, Stepped, Summary, Tally}
 use Rattle.schedule.specs.declared.reader.Reading.the-variants as reading
 use Rattle.schedule.specs.declared.runner.Running.the-variants as running
 use Rattle.schedule.specs.Entries.{entryAt, entryToObey}
@@ -122,6 +123,32 @@ runFile = runFileBy ffThe
 
 abbrev pub traceAfter : List ℕ → List ℕ → List ℕ
 traceAfter = traceAfterBy ffThe
+
+-- ── Of the queue that is named ──────────────────────────────────────────────────────────────────────────────────────────────
+
+abbrev pub outcomesFromOn : Queue → Sizes → List ℕ → List ℕ → List Outcome
+outcomesFromOn FfThe = outcomesFromBy ffThe
+outcomesFromOn FfCl = outcomesFromBy ffCl
+
+abbrev pub summaryFromOn : Queue → Sizes → List ℕ → List ℕ → Summary
+summaryFromOn FfThe = summaryFromBy ffThe
+summaryFromOn FfCl = summaryFromBy ffCl
+
+abbrev pub outcomesInOn : Queue → List ℕ → List Outcome
+outcomesInOn FfThe = outcomesInBy ffThe
+outcomesInOn FfCl = outcomesInBy ffCl
+
+abbrev pub summaryInOn : Queue → List ℕ → Summary
+summaryInOn FfThe = summaryInBy ffThe
+summaryInOn FfCl = summaryInBy ffCl
+
+abbrev pub runFileOn : Queue → List ℕ → ℕ → Running
+runFileOn FfThe = runFileBy ffThe
+runFileOn FfCl = runFileBy ffCl
+
+abbrev pub traceAfterOn : Queue → List ℕ → List ℕ → List ℕ
+traceAfterOn FfThe = traceAfterBy ffThe
+traceAfterOn FfCl = traceAfterBy ffCl
 
 -- ── What a run is ───────────────────────────────────────────────────────────────────────────────────────────────────────────
 

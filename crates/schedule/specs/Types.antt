@@ -15,6 +15,8 @@ pub use Rattle.schedule.specs.declared.check.Check.{Check}
 pub use Rattle.schedule.specs.declared.check.Check.the-variants.{Passed, Failed}
 pub use Rattle.schedule.specs.declared.reader.Reading.{Reading}
 pub use Rattle.schedule.specs.declared.reader.Reading.the-variants.{Accepted}
+pub use Rattle.schedule.specs.declared.runner.Queue.{Queue}
+pub use Rattle.schedule.specs.declared.runner.Queue.the-variants.{FfThe, FfCl}
 pub use Rattle.schedule.specs.declared.runner.Running.{Running}
 pub use Rattle.schedule.specs.declared.runner.Running.the-variants.{Ran}
 pub use Rattle.schedule.specs.declared.runner.Stepped.{Stepped}

@@ -9,7 +9,8 @@
 //       operand_part
 //     obey_entries     from the sizes and the two parts: a summary, and the trace, if it fits the memory that is lent for it
 //
-// `run` goes that way, and so do the libraries above that run files. `run` obeys nothing, and touches nothing of the memory that the caller lends
+// `run` goes that way, and so do the libraries above that run files; each of these functions is also there for the queue that is named (`Queue`): the compare-and-swap queue, on a machine of its own, is run over
+// the same file into the same trace. `run` obeys nothing, and touches nothing of the memory that the caller lends
 // for the trace, unless the file is read and the trace fits. With enough margin the answers in that trace are those of a plain queue, and its
 // promise says so (`specs/Demand3.antt`). A summary has the totals, and how far memory lagged behind the worker at most: how many stores of take step 1 were pending after an
 // entry, which is never more than the needed margin (`specs/Hidden.antt`). `step` is one entry of a run, to watch; `entry_at` is the entry to hand it.
@@ -41,9 +42,12 @@ pub use reader::kind_part;
 pub use reader::operand_part;
 pub use reader::read;
 pub use reader::refusal_of;
+pub use runner::Queue;
 pub use runner::Running;
 pub use runner::Stepped;
 pub use runner::Summary;
 pub use runner::obey_entries;
+pub use runner::obey_entries_on;
 pub use runner::run;
+pub use runner::run_on;
 pub use runner::step;

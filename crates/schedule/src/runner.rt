@@ -3,16 +3,18 @@ ghost use mathlib.Core.Bool.{cond};
 ghost use mathlib.Core.List.{[], _∷_};
 ghost use Prim.Native.Nat.{_+_, _*_, _<_, max};
 ghost use lib.ListN.{length};
-ghost use Rattle.machine.specs.Obey.{outcomesOf};
+ghost use Rattle.cas.specs.Linearizable.{ffCl};
+ghost use Rattle.claim.specs.Run.{outcomesOf};
+ghost use Rattle.machine.specs.Linearizable.{ffThe};
 ghost use Rattle.number.specs.Number.{littleEndian, overwritten};
 ghost use Rattle.terms.specs.Outcome.{numberOf, valueOf};
 ghost use Rattle.terms.specs.Refusal.{Refuses};
-ghost use Rattle.schedule.specs.Demand3.{RunLinearizes};
+ghost use Rattle.schedule.specs.Demand3.{RunLinearizes, RunLinearizesOn};
 ghost use Rattle.schedule.specs.Faults.{refusalInRunning, runHas};
 ghost use Rattle.schedule.specs.Format.{wordsIn};
 ghost use Rattle.schedule.specs.Hidden.{RunWithinNeeded};
-ghost use Rattle.schedule.specs.Run.{entriesOf, outcomesFrom, runFile, stepped, summaryFrom, traceAfter, tracePut};
-ghost use Rattle.schedule.specs.Totals.{summaryOf};
+ghost use Rattle.schedule.specs.Run.{entriesOf, outcomesFrom, outcomesFromOn, runFile, runFileOn, stepped, summaryFrom, summaryFromOn, traceAfter, traceAfterOn, tracePut};
+ghost use Rattle.schedule.specs.Totals.{summaryBy, summaryOf};
 ghost use Rattle.schedule.specs.Trace.{traceFits};
 use crate::entries::entry_at;
 use crate::layout::ENTRY_BYTES;
@@ -48,6 +50,14 @@ pub struct Summary {
     pub tally: Tally,
     // The largest number of stores of take step 1 that were pending after an entry; 0 for no entries.
     pub hidden: u32,
+}
+
+// The queues that a file can be run on, by the paper's names.
+pub enum Queue {
+    // With a lock: 01's queue, on the machine of the library `machine`.
+    FfThe,
+    // With compare-and-swap, on that of `cas`.
+    FfCl,
 }
 
 // The answer of running a file.
@@ -117,7 +127,7 @@ fn put_count(trace: &mut [u8], entries: usize)
 // compiler keeps the machine where it is (`docs/ARCHITECTURE.md`, "Where a run's time goes").
 fn obey_from(machine: Machine, kinds: &[u8], operands: &[u8], trace: &mut [u8]) -> Summary
     ensures { λ r. ⌜ r ≡ summaryOf machine (entriesOf (machine .sizes) (now (kinds .entry)) (wordsIn (now (operands .entry)))) ⌝ }
-    ensures { λ _. ⌜ now (trace .exit) ≡ tracePut (outcomesOf machine (entriesOf (machine .sizes) (now (kinds .entry)) (wordsIn (now (operands .entry))))) (now (trace .entry)) ⌝ }
+    ensures { λ _. ⌜ now (trace .exit) ≡ tracePut (outcomesOf ffThe machine (entriesOf (machine .sizes) (now (kinds .entry)) (wordsIn (now (operands .entry))))) (now (trace .entry)) ⌝ }
 {
     let entries = kinds.len();
     let sizes = machine.sizes;
@@ -156,12 +166,55 @@ pub fn obey_entries(sizes: Sizes, kinds: &[u8], operands: &[u8], trace: &mut [u8
     obey_from(Machine::fresh(sizes), kinds, operands, trace)
 }
 
-// Runs a schedule file and writes the trace into a buffer. Nothing is obeyed and nothing written before the whole file is read and the
+// The loop of `obey_entries_on` for the compare-and-swap queue, whose machine is another: the same, turn by turn.
+fn cas_obey_from(machine: cas::Machine, kinds: &[u8], operands: &[u8], trace: &mut [u8]) -> Summary
+    ensures { λ r. ⌜ r ≡ summaryBy ffCl machine (entriesOf (machine .sizes) (now (kinds .entry)) (wordsIn (now (operands .entry)))) ⌝ }
+    ensures { λ _. ⌜ now (trace .exit) ≡ tracePut (outcomesOf ffCl machine (entriesOf (machine .sizes) (now (kinds .entry)) (wordsIn (now (operands .entry))))) (now (trace .entry)) ⌝ }
+{
+    let entries = kinds.len();
+    let sizes = machine.sizes;
+    // Of this one only the machine is read.
+    let mut done = cas::Done {
+        machine: machine,
+        outcome: Outcome::Moved,
+        hidden: 0,
+    };
+    let mut tally = Tally::none();
+    let mut hidden = 0;
+    let mut at = 0;
+    while at < entries {
+        let entry = entry_at(sizes, kinds, operands, at);
+        done = done.machine.obey(entry);
+        let outcome = done.outcome;
+        hidden = larger(hidden, done.hidden);
+        tally = tally.counted(outcome);
+        put_outcome(trace, entries, at, outcome);
+        at += 1;
+    }
+    put_count(trace, entries);
+    Summary {
+        tally: tally,
+        hidden: hidden,
+    }
+}
+
+// The same on the queue that is named.
+pub fn obey_entries_on(queue: Queue, sizes: Sizes, kinds: &[u8], operands: &[u8], trace: &mut [u8]) -> Summary
+    ensures { λ r. ⌜ r ≡ summaryFromOn queue sizes (now (kinds .entry)) (wordsIn (now (operands .entry))) ⌝ }
+    ensures { λ _. ⌜ now (trace .exit) ≡ tracePut (outcomesFromOn queue sizes (now (kinds .entry)) (wordsIn (now (operands .entry)))) (now (trace .entry)) ⌝ }
+{
+    match queue {
+        Queue::FfThe => return obey_entries(sizes, kinds, operands, trace),
+        Queue::FfCl => return cas_obey_from(cas::Machine::fresh(sizes), kinds, operands, trace),
+    }
+}
+
+// Runs a schedule file on the queue that is named, and writes the trace into a buffer. Nothing is obeyed and nothing written before the whole file is read and the
 // trace is known to fit; beyond the trace the buffer stays as it was.
-pub fn run(file: &[u8], trace: &mut [u8]) -> Running
-    ensures { λ r. ⌜ r ≡ runFile (now (file .entry)) (length (now (trace .entry))) ⌝ }
-    ensures { λ _. ⌜ now (trace .exit) ≡ traceAfter (now (file .entry)) (now (trace .entry)) ⌝ }
-    ensures { λ r. ⌜ RunLinearizes (now (file .entry)) (now (trace .exit)) r ⌝ }
+pub fn run_on(queue: Queue, file: &[u8], trace: &mut [u8]) -> Running
+    ensures { λ r. ⌜ r ≡ runFileOn queue (now (file .entry)) (length (now (trace .entry))) ⌝ }
+    ensures { λ _. ⌜ now (trace .exit) ≡ traceAfterOn queue (now (file .entry)) (now (trace .entry)) ⌝ }
+    ensures { λ r. ⌜ RunLinearizesOn queue (now (file .entry)) (now (trace .exit)) r ⌝ }
     ensures { λ r. ⌜ Refuses (runHas (now (file .entry)) (length (now (trace .entry)))) (refusalInRunning r) ⌝ }
     ensures { λ r. ⌜ RunWithinNeeded (now (file .entry)) r ⌝ }
 {
@@ -174,5 +227,16 @@ pub fn run(file: &[u8], trace: &mut [u8]) -> Running
     }
     let kinds = kind_part(file, reading);
     let operands = operand_part(file, reading);
-    Running::Ran(obey_entries(sizes, kinds, operands, trace))
+    Running::Ran(obey_entries_on(queue, sizes, kinds, operands, trace))
+}
+
+// .. on FF-THE.
+pub fn run(file: &[u8], trace: &mut [u8]) -> Running
+    ensures { λ r. ⌜ r ≡ runFile (now (file .entry)) (length (now (trace .entry))) ⌝ }
+    ensures { λ _. ⌜ now (trace .exit) ≡ traceAfter (now (file .entry)) (now (trace .entry)) ⌝ }
+    ensures { λ r. ⌜ RunLinearizes (now (file .entry)) (now (trace .exit)) r ⌝ }
+    ensures { λ r. ⌜ Refuses (runHas (now (file .entry)) (length (now (trace .entry)))) (refusalInRunning r) ⌝ }
+    ensures { λ r. ⌜ RunWithinNeeded (now (file .entry)) r ⌝ }
+{
+    run_on(Queue::FfThe, file, trace)
 }

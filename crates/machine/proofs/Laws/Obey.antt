@@ -10,9 +10,9 @@ use Rattle.terms.specs.Sizes.{marginInUse}
 use Rattle.terms.specs.Kinds.{thiefIsThere}
 use Rattle.terms.proofs.Laws.Tests.{by-test, either}
 use Rattle.stores.specs.Spacing.{tooEarly}
-use Rattle.claim.specs.Calls.{isStep, partyOf}
-use Rattle.claim.proofs.Lawful.{Lawful, isThere}
-use Rattle.machine.specs.Types.{Done, Entry, Drain, ClientStore, BeginPut, BeginTake, WorkerStep, BeginSteal, ThiefStep, Machine, Outcome, Moved, Place, Wait, Sizes, Thief, ThiefCall, StealLock, StealLoadHead, StealRaiseHead, StealLoadTail, StealLoadSlot, StealUnlockTask, StealRestoreHead, StealUnlockAbort, WorkerCall, PutLoadHead, PutStoreSlot, PutStoreTail, TakeStoreTail, TakeLoadHead, TakeLoadSlot, TakeLock, TakeReloadHead, TakeRestoreTail, TakeUnlockEmpty, TakeUnlockTask, TakeLoadLastSlot, ThiefMove, WorkerMove}
+use Rattle.claim.specs.Calls.{isStep}
+use Rattle.claim.proofs.Lawful.{Lawful, party-there}
+use Rattle.machine.specs.Types.{Done, Entry, Drain, ClientStore, BeginPut, BeginTake, WorkerStep, BeginSteal, ThiefStep, Machine, Outcome, Moved, Place, Wait, Thief, ThiefCall, StealLock, StealLoadHead, StealRaiseHead, StealLoadTail, StealLoadSlot, StealUnlockTask, StealRestoreHead, StealUnlockAbort, WorkerCall, PutLoadHead, PutStoreSlot, PutStoreTail, TakeStoreTail, TakeLoadHead, TakeLoadSlot, TakeLock, TakeReloadHead, TakeRestoreTail, TakeUnlockEmpty, TakeUnlockTask, TakeLoadLastSlot, ThiefMove, WorkerMove}
 use Rattle.machine.specs.Machine.{done, hasRoom, hidden, lockIsFree, nothingPending, thiefCall, thiefTail}
 use Rattle.machine.specs.InRange.{inRange}
 use Rattle.machine.specs.Worker.{atEnd, atOrAboveHead, headIsPast, isFull, stays, workerRuns}
@@ -151,15 +151,6 @@ pub obey-by : (m : Machine) (e : Entry) {b : Bool} → (inRange m && thiefIsTher
 obey-by m e p = ap (λ b. cond b (obeyInRange m e) (done Wait m)) p
 
 -- so FF-THE is a lawful implementation
-pub party-there : (s : Sizes) (e : Entry) → thiefIsThere s e ≡ isThere s (partyOf e)
-party-there s Drain = refl
-party-there s ClientStore = refl
-party-there s (BeginPut x) = refl
-party-there s BeginTake = refl
-party-there s WorkerStep = refl
-party-there s (BeginSteal i) = refl
-party-there s (ThiefStep i) = refl
-
 pub ffThe-lawful : Lawful ffThe
 ffThe-lawful =
     record {

@@ -1,17 +1,17 @@
--- `main` is safe: what is printed lies within the text.
+-- `rehearse` is safe: what is printed lies within the text.
 use mathlib.Core.Path.{sym}
 use borrow.Author.Needs.{needs}
 use lib.Seq.{length-take-le}
-use Rattle.rehearse.proofs.main.Statement.{statement}
-use Rattle.rehearse.proofs.main.Tie as tie
+use Rattle.program.proofs.rehearse.Statement.{statement}
+use Rattle.program.proofs.rehearse.Tie as tie
 
 slice-aggregate-write-all : tie.Need-slice-aggregate-write-all
 slice-aggregate-write-all c =
     let lines = c .before .before .lines-of in
     sym (length-take-le (lines .result .length) (lines .result .bytes) (lines .ensures .0 .1))
 
-pub main-spec : {M : Type 1} → statement M
-main-spec =
+pub rehearse-spec : {M : Type 1} → statement M
+rehearse-spec =
     tie.close
     (tie.spec
     (λ c. search needs)

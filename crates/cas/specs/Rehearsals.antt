@@ -1,0 +1,345 @@
+-- What each step of the compare-and-swap queue shows, as one table over the definitions: each answer of each call, the thief that starts over, two thieves that have loaded one head, the take that loses its swap, both ways to put the tail back, what waits and
+-- what does not, the limits, the margin and one less, and machines at the edge of their range. `proofs/Rehearsals.antt` proves one fact: every row holds; and that the run whose margin is one short violates the claim.
+use mathlib.Core.Bool.{Bool}
+use mathlib.Core.List.{List, [], _∷_, _++_, map}
+use Prim.Native.Nat.{ℕ}
+use lib.Dec.{eqb, ltb}
+use lib.IntN.{ℤ, pos, negsuc}
+use lib.ListN.{getD, replicate}
+use Rattle.terms.specs.Sizes.{sized}
+use Rattle.terms.specs.Lists.{all, concatMap, occurrences}
+use Rattle.claim.specs.Calls.{worker, thief}
+use Rattle.claim.specs.Linearizable.{Linearizable}
+use Rattle.claim.specs.Stories.{Line, Looks, Row, story, handed, hiding, brink, beyond, does, headIs, tailIs, slotIs, countIs, tasksStand, standing, owed, clientStores, drains, entriesIn, filled, holds, numbersIn, putEnds, puts, takes, thiefGets, thiefMoves, workerGets, workerMoves}
+use Rattle.stores.specs.Index.{eqZ}
+use Rattle.stores.specs.StoreBuffer.{emptyBuffer, push, slotStore, tailStore}
+use Rattle.cas.specs.Types.{Drain, ClientStore, BeginPut, BeginTake, WorkerStep, BeginSteal, ThiefStep, Index, Machine, Outcome, Moved, Place, Early, Wait, Stored, Task, Empty, Abort, Full, End, Sizes, StealLoadTail, StealLoadSlot, StealSwapHead, TakeLoadHead, TakeLoadSlot, TakeTailToHead, TakeTailPastHead, TakeSwapHead, TakeLoadLastSlot, TakeStoreTail, PutStoreTail}
+use Rattle.cas.specs.Machine.{fresh, inRange, withBuffer, withHead, withMemory, withThief, withWorker}
+use Rattle.cas.specs.Linearizable.{ffCl}
+
+abbrev pub looks : Looks Machine
+looks =
+    record {
+      headIs = λ m z. eqZ (m .head .at) z;
+      tailIs = λ m z. eqZ (m .tail .at) z;
+      slotIs = λ m k x. eqb (getD (m .slots) k 0) x;
+      countIs = λ m n. eqb (m .spacing .count) n;
+      inRange = inRange;
+    }
+
+abbrev pub rowHolds : Row Machine → Bool
+rowHolds r = holds ffCl looks r
+
+-- ── Words ───────────────────────────────────────────────────────────────────────────────────────────────────────────────────
+
+-- a step of the thief with this number, with its outcome
+abbrev pub steps : ℕ → Outcome → List Line
+steps i o = does (ThiefStep i) o ∷ []
+
+abbrev pub begins : ℕ → List Line
+begins i = does (BeginSteal i) Moved ∷ []
+
+-- a whole steal of thief 0 that ends at its load of the tail, and one that ends at its swap
+abbrev pub stealEnds : Outcome → List Line
+stealEnds o = begins 0 ++ thiefMoves 1 ++ thiefGets o
+
+abbrev pub steals : ℕ → List Line
+steals x = begins 0 ++ thiefMoves 3 ++ thiefGets (Task x)
+
+-- a take that has loaded head
+abbrev pub takeLooks : List Line
+takeLooks = does BeginTake Moved ∷ workerMoves 2
+
+-- a whole take of the last task, drained before its swap
+abbrev pub takesLast : ℕ → List Line
+takesLast x = takeLooks ++ workerMoves 1 ++ drains 2 ++ workerMoves 1 ++ workerGets (Task x)
+
+-- a whole take from an empty queue
+abbrev pub takesNothing : List Line
+takesNothing = takeLooks ++ workerGets Empty
+
+-- ── Sizes ───────────────────────────────────────────────────────────────────────────────────────────────────────────────────
+
+-- a buffer of 2 without spacing needs a margin of 2
+abbrev pub enough : Sizes
+enough = sized 4 2 0 2 2 0
+
+abbrev pub oneShort : Sizes
+oneShort = sized 4 2 0 1 2 0
+
+-- ── Each call, and its answers ──────────────────────────────────────────────────────────────────────────────────────────────
+
+-- STORED, and FULL at all slots: of 2 slots the second put fits, which FF-THE's does not, and the third is FULL
+abbrev pub putsFill : List Line
+putsFill = puts 7 ++ drains 2 ++ puts 8 ++ drains 2 ++ tasksStand 2 ∷ standing (7 ∷ 8 ∷ []) ∷ putEnds 9 Full
+
+-- END at the greatest tail, whatever is free; a steal raises head and makes no room there
+abbrev pub putsEnd : List Line
+putsEnd = puts 7 ++ drains 2 ++ putEnds 8 End ++ takesLast 7 ++ tailIs (pos 2147483647) ∷ headIs (pos 2147483647) ∷ putEnds 8 End
+
+-- t > h: the newest task at once, and head stays
+abbrev pub takesAbove : List Line
+takesAbove = filled 2 ++ takeLooks ++ owed worker (Task 2) ∷ standing (1 ∷ []) ∷ workerGets (Task 2) ++ headIs (pos 0) ∷ tailIs (pos 2) ∷ drains 1 ++ tailIs (pos 1) ∷ []
+
+-- t < h: the tail goes back to h; it is -1 meanwhile, where start is 0
+abbrev pub takesFromNone : List Line
+takesFromNone = takeLooks ++ owed worker Empty ∷ drains 1 ++ tailIs (negsuc 0) ∷ workerGets Empty ++ drains 1 ++ tailIs (pos 0) ∷ headIs (pos 0) ∷ []
+
+-- t = h: the tail goes past h, and the swap waits for both stores; won, head is past the task and the task is loaded next. The sum stays, so that the tail is where it was.
+abbrev pub takesTheLast : List Line
+takesTheLast =
+    filled 1
+    ++ takeLooks
+    ++ tasksStand 1
+    ∷ workerMoves 1
+    ++ workerGets Wait
+    ++ drains 1
+    ++ tailIs (pos 0)
+    ∷ workerGets Wait
+    ++ drains 1
+    ++ tailIs (pos 1)
+    ∷ headIs (pos 0)
+    ∷ workerMoves 1
+    ++ headIs (pos 1)
+    ∷ tasksStand 0
+    ∷ owed worker (Task 1)
+    ∷ workerGets (Task 1)
+    ++ tailIs (pos 1)
+    ∷ standing []
+    ∷ []
+
+-- .. lost: a thief has the task, and the take is EMPTY at that entry. The thief has looked while two tasks stood, and keeps a margin of 1.
+abbrev pub swapLost : List Line
+swapLost =
+    filled 2
+    ++ begins 0
+    ++ thiefMoves 2
+    ++ takes 2
+    ++ clientStores 1
+    ++ drains 2
+    ++ takeLooks
+    ++ workerMoves 1
+    ++ drains 2
+    ++ thiefMoves 1
+    ++ thiefGets (Task 1)
+    ++ headIs (pos 1)
+    ∷ tasksStand 0
+    ∷ workerGets Empty
+    ++ headIs (pos 1)
+    ∷ tailIs (pos 1)
+    ∷ countIs 0
+    ∷ standing []
+    ∷ []
+
+-- the worker loads what it has put, though it is pending
+abbrev pub takesPendingPut : List Line
+takesPendingPut = filled 1 ++ puts 2 ++ slotIs 1 0 ∷ takes 2
+
+-- a steal: head is raised by its swap alone, and the worker's tail is as it was
+abbrev pub stealsOldest : List Line
+stealsOldest = filled 3 ++ begins 0 ++ thiefMoves 2 ++ headIs (pos 0) ∷ thiefMoves 1 ++ headIs (pos 0) ∷ tasksStand 3 ∷ thiefGets (Task 1) ++ headIs (pos 1) ∷ standing (2 ∷ 3 ∷ []) ∷ []
+
+-- h ≥ T is EMPTY, and comes before ABORT; a put that lags is not seen
+abbrev pub stealsNone : List Line
+stealsNone = stealEnds Empty ++ puts 1 ++ tasksStand 1 ∷ stealEnds Empty ++ drains 2 ++ stealEnds Abort
+
+-- T − margin ≤ h is ABORT: two tasks with a margin of 2, where three are enough
+abbrev pub stealsAbort : List Line
+stealsAbort = filled 2 ++ stealEnds Abort ++ tasksStand 2 ∷ puts 3 ++ stealEnds Abort ++ drains 2 ++ steals 1
+
+-- ── Thieves against each other ──────────────────────────────────────────────────────────────────────────────────────────────
+
+-- two thieves have loaded one h: the first to swap wins, the other starts over, with nothing of what it held, and gets the next
+abbrev pub twoThieves : List Line
+twoThieves =
+    filled 4
+    ++ begins 0
+    ++ begins 1
+    ++ steps 0 Moved
+    ++ steps 1 Moved
+    ++ steps 0 Moved
+    ++ steps 1 Moved
+    ++ steps 0 Moved
+    ++ steps 1 Moved
+    ++ steps 1 (Task 1)
+    ++ headIs (pos 1)
+    ∷ steps 0 Moved
+    ++ headIs (pos 1)
+    ∷ steps 0 Moved
+    ++ steps 0 Moved
+    ++ steps 0 Moved
+    ++ steps 0 (Task 2)
+    ++ headIs (pos 2)
+    ∷ standing (3 ∷ 4 ∷ [])
+    ∷ []
+
+-- a thief that starts over looks at the tail anew: it may end with ABORT, or with EMPTY
+abbrev pub startsOverInVain : List Line
+startsOverInVain = filled 3 ++ begins 0 ++ thiefMoves 3 ++ begins 1 ++ steps 1 Moved ++ steps 1 Moved ++ steps 1 Moved ++ steps 1 (Task 1) ++ thiefMoves 2 ++ thiefGets Abort
+
+abbrev pub startsOverToNone : List Line
+startsOverToNone = filled 3 ++ begins 0 ++ thiefMoves 3 ++ takes 3 ++ drains 1 ++ takes 2 ++ drains 1 ++ takesLast 1 ++ thiefMoves 2 ++ thiefGets Empty
+
+-- ── What keeps takes apart, and what is refused ─────────────────────────────────────────────────────────────────────────────
+
+-- the stores of a put count and those of a take do not, neither the lowered tail nor the one that is put back
+abbrev pub countsStores : List Line
+countsStores = takesNothing ++ countIs 0 ∷ does BeginTake Early ∷ clientStores 1 ++ countIs 1 ∷ drains 3 ++ takeLooks ++ workerGets Empty ++ countIs 0 ∷ puts 1 ++ countIs 2 ∷ []
+
+-- 5 before 6 before 7; no step of a thief's waits
+abbrev pub refused : List Line
+refused =
+    does WorkerStep Place
+    ∷ does (ThiefStep 0) Place
+    ∷ does Drain Wait
+    ∷ does (BeginSteal 0) Moved
+    ∷ does (BeginSteal 0) Place
+    ∷ does (BeginSteal 1) Moved
+    ∷ does BeginTake Moved
+    ∷ does BeginTake Place
+    ∷ does (BeginPut 1) Place
+    ∷ does ClientStore Place
+    ∷ does (BeginSteal 2) Wait
+    ∷ does (ThiefStep 2) Wait
+    ∷ []
+
+-- a store waits for room; a load does not
+abbrev pub waits : List Line
+waits = does (BeginPut 5) Moved ∷ workerMoves 2 ++ workerGets Wait ++ drains 1 ++ workerGets Stored ++ does ClientStore Wait ∷ drains 1 ++ clientStores 1 ++ []
+
+-- ── The margin ──────────────────────────────────────────────────────────────────────────────────────────────────────────────
+
+-- Two takes undrained, so that memory still has the old tail when a thief comes. It may have block 1, which nobody has taken ..
+abbrev pub twoTakesThenSteal : List Line
+twoTakesThenSteal = filled 3 ++ takes 3 ++ takes 2 ++ steals 1
+
+-- .. and then, with the needed margin of 2, no other
+abbrev pub marginKept : List Line
+marginKept = twoTakesThenSteal ++ stealEnds Abort ++ headIs (pos 1) ∷ standing [] ∷ []
+
+-- with a margin one short it has block 2, which the worker has too
+abbrev pub givenTwice : List Line
+givenTwice = twoTakesThenSteal ++ steals 2
+
+-- .. and that run violates the claim. Proved in `proofs/Rehearsals.antt`.
+abbrev pub GivenTwiceViolates : Type 0
+GivenTwiceViolates = Linearizable ffCl oneShort (entriesIn givenTwice) → ⊥
+
+-- ── Machines handed in ──────────────────────────────────────────────────────────────────────────────────────────────────────
+
+abbrev pub index : ℤ → Index
+index z = record { at = z }
+
+abbrev pub greatest : Index
+greatest = index (pos 2147483648)
+
+-- the fresh machine with head and memory's tail at these indices
+abbrev pub between : Index → Index → Machine
+between h t = withHead h (withMemory (fresh enough .slots) t emptyBuffer (fresh enough))
+
+-- a take below head stores the head that it has loaded, whatever the tail is
+abbrev pub tailToHead : Row Machine
+tailToHead = handed (withWorker (TakeTailToHead (index (pos 7))) (between (index (pos 9)) (index (pos 3)))) (workerGets Empty ++ drains 1 ++ tailIs (pos 7) ∷ headIs (pos 9) ∷ [])
+
+-- one at head stores the index past it, and swaps head there
+abbrev pub tailPastHead : Row Machine
+tailPastHead = handed (withWorker (TakeTailPastHead (index (pos 7))) (between (index (pos 7)) (index (pos 3)))) (workerMoves 1 ++ drains 1 ++ tailIs (pos 8) ∷ workerMoves 1 ++ headIs (pos 8) ∷ [])
+
+-- a swap compares head with what was loaded, be it above or below, of the worker's ..
+abbrev pub takeSwaps : ℤ → Machine
+takeSwaps z = withWorker (TakeSwapHead (index (pos 7))) (between (index z) (index (pos 8)))
+
+-- .. and of a thief's, which waits for no pending store
+abbrev pub stealSwaps : ℤ → Machine
+stealSwaps z = withBuffer (push (tailStore (index (pos 2))) emptyBuffer) (withThief 0 (StealSwapHead 5 (index (pos 7))) (between (index z) (index (pos 9))))
+
+-- a thief loads memory's slot, whatever is pending
+abbrev pub loadsMemory : Row Machine
+loadsMemory =
+    handed (withBuffer (push (slotStore (index (pos 1)) 6) emptyBuffer) (withThief 0 (StealLoadSlot (index (pos 1))) (between (index (pos 1)) (index (pos 9)))))
+    (thiefMoves 1 ++ thiefGets (Task 0))
+
+abbrev pub handedRows : List (Row Machine)
+handedRows =
+    tailToHead
+    ∷ tailPastHead
+    ∷ handed (takeSwaps (pos 7)) (workerMoves 1 ++ headIs (pos 8) ∷ workerGets (Task 0))
+    ∷ handed (takeSwaps (pos 8)) (workerGets Empty ++ headIs (pos 8) ∷ [])
+    ∷ handed (takeSwaps (pos 6)) (workerGets Empty ++ headIs (pos 6) ∷ [])
+    ∷ handed (stealSwaps (pos 7)) (thiefGets (Task 5) ++ headIs (pos 8) ∷ [])
+    ∷ handed (stealSwaps (pos 8)) (thiefMoves 1 ++ headIs (pos 8) ∷ [])
+    ∷ handed (stealSwaps (pos 6)) (thiefMoves 1 ++ headIs (pos 6) ∷ [])
+    ∷ loadsMemory
+    ∷ []
+
+-- a swap past the greatest index, a slot below 0 that is to be loaded next, and a tail stored out of range
+abbrev pub brinks : List (Row Machine)
+brinks =
+    brink (withWorker (TakeSwapHead greatest) (between greatest greatest)) WorkerStep Moved
+    ∷ brink (withWorker (TakeSwapHead (index (negsuc 0))) (between (index (negsuc 0)) (index (pos 0)))) WorkerStep Moved
+    ∷ brink (withWorker (TakeTailPastHead greatest) (between greatest greatest)) WorkerStep Moved
+    ∷ brink (withThief 0 (StealSwapHead 5 greatest) (between greatest greatest)) (ThiefStep 0) (Task 5)
+    ∷ brink (withThief 0 (StealLoadTail (index (negsuc 0))) (between (index (pos 0)) (index (pos 9)))) (ThiefStep 0) Moved
+    ∷ brink (withWorker PutStoreTail (between (index (pos 0)) greatest)) WorkerStep Stored
+    ∷ brink (withWorker TakeStoreTail (between (index (pos 0)) (index (negsuc 0)))) WorkerStep Moved
+    ∷ []
+
+-- every index that a call holds is looked at
+abbrev pub outOfRange : List Machine
+outOfRange =
+    withWorker (TakeLoadHead (index (negsuc 1))) (fresh enough)
+    ∷ withWorker (TakeLoadSlot (index (negsuc 0))) (fresh enough)
+    ∷ withWorker (TakeTailToHead (index (negsuc 1))) (fresh enough)
+    ∷ withWorker (TakeTailPastHead (index (negsuc 1))) (fresh enough)
+    ∷ withWorker (TakeSwapHead (index (negsuc 1))) (fresh enough)
+    ∷ withWorker (TakeLoadLastSlot (index (negsuc 0))) (fresh enough)
+    ∷ withThief 7 (StealLoadTail (index (negsuc 1))) (fresh enough)
+    ∷ withThief 7 (StealLoadSlot (index (negsuc 0))) (fresh enough)
+    ∷ withThief 7 (StealSwapHead 0 (index (negsuc 1))) (fresh enough)
+    ∷ withHead (index (negsuc 1)) (fresh enough)
+    ∷ between (index (pos 0)) (index (negsuc 1))
+    ∷ fresh (sized 1 2 0 2 1 0)
+    ∷ []
+
+-- ── How far memory lags ─────────────────────────────────────────────────────────────────────────────────────────────────────
+
+-- the stores of take step 1 alone: neither way to put the tail back is one
+abbrev pub hiddenRows : List (Row Machine)
+hiddenRows =
+    hiding (fresh enough) takesNothing (0 ∷ 1 ∷ 1 ∷ 1 ∷ [])
+    ∷ hiding (fresh (sized 4 4 0 4 1 0)) (puts 1 ++ takeLooks ++ workerMoves 1) (0 ∷ 0 ∷ 0 ∷ 0 ∷ 0 ∷ 1 ∷ 1 ∷ 1 ∷ [])
+    ∷ hiding (fresh (sized 4 8 0 8 1 0)) (puts 1 ++ puts 2 ++ puts 3 ++ takes 3 ++ takes 2 ++ drains 6 ++ drains 2)
+        (replicate 13 0 ++ (1 ∷ 1 ∷ 1 ∷ 1 ∷ 2 ∷ 2 ∷ 2 ∷ 2 ∷ 2 ∷ 2 ∷ 2 ∷ 2 ∷ 2 ∷ 1 ∷ 0 ∷ []))
+    ∷ []
+
+-- ── The table ───────────────────────────────────────────────────────────────────────────────────────────────────────────────
+
+abbrev pub stories : List (Row Machine)
+stories =
+    story (sized 2 2 0 2 1 0) putsFill
+    ∷ story (sized 4 2 0 2 1 2147483646) putsEnd
+    ∷ story enough takesAbove
+    ∷ story enough takesFromNone
+    ∷ story enough takesTheLast
+    ∷ story (sized 4 2 1 1 2 0) swapLost
+    ∷ story (sized 4 4 0 4 1 0) takesPendingPut
+    ∷ story enough stealsOldest
+    ∷ story enough stealsNone
+    ∷ story enough stealsAbort
+    ∷ story enough twoThieves
+    ∷ story enough startsOverInVain
+    ∷ story enough startsOverToNone
+    ∷ story (sized 4 4 1 0 1 0) countsStores
+    ∷ story enough refused
+    ∷ story (sized 4 1 0 1 1 0) waits
+    ∷ story enough marginKept
+    ∷ story oneShort givenTwice
+    ∷ []
+
+abbrev pub rows : List (Row Machine)
+rows = stories ++ handedRows ++ brinks ++ map beyond outOfRange ++ hiddenRows
+
+-- every number that an outcome can have is shown
+abbrev pub everyNumberShown : Bool
+everyNumberShown =
+    all (λ n. ltb 0 (occurrences n (concatMap numbersIn stories))) (0 ∷ 5 ∷ 6 ∷ 7 ∷ 16 ∷ 17 ∷ 18 ∷ 19 ∷ 20 ∷ 21 ∷ [])
