@@ -1,2 +1,3 @@
 pub mod Laws
 pub mod Rehearsals
+pub mod Linearizable

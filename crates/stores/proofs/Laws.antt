@@ -1,5 +1,6 @@
 pub mod Words
 pub mod Index
+pub mod Load
 pub mod StoreBuffer
 pub mod Chain
 pub mod Slots

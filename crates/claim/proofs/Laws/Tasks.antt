@@ -29,7 +29,7 @@ newest-last l some =
     sym (drop-cons l (length l - 1) (record { put = 0; number = 0 }) (omega arith)
     ∙ ap (λ r. taskAt l (length l - 1) ∷ r) (ap (λ k. drop k l) past ∙ drop-length l))
 
-oldest-first : (l : List StoredTask) → 0 < length l → taskAt l 0 ∷ [] ≡ take 1 l
+pub oldest-first : (l : List StoredTask) → 0 < length l → taskAt l 0 ∷ [] ≡ take 1 l
 oldest-first [] some = absurd (omega arith)
 oldest-first (t ∷ l) some = refl
 

@@ -8,7 +8,7 @@ use native.Mathlib.Omega.{arith}
 use lib.Dec.{eqb, leb, ltb}
 use lib.IntN.{ℤ, negsuc, pos, subℕ, _+ℤ_, _-ℤ_, +ℤ-idr}
 use lib.Signed.{leZ, ltZ}
-use borrow.Author.Tests.{eqb-false, eqb-true, le-leb, le-ltb, leb-false, leb-true, lt-leb, lt-ltb, ltb-false, ltb-true}
+use borrow.Author.Tests.{eq-eqb, eqb-false, eqb-true, le-leb, le-ltb, leb-false, leb-true, lt-leb, lt-ltb, ltb-false, ltb-true}
 use Rattle.terms.proofs.Laws.Tests.{by-test}
 use Rattle.stores.specs.Types.{Index}
 use Rattle.stores.specs.Index.{aboveBy, belowByMore, eqZ, indexInRange, indexOf, modulo, next, nextOrSame, previous, previousOrSame, slotIndexInRange, slotOf}
@@ -132,6 +132,10 @@ idx-eq a b = rw (idx-le a b, idx-le b a) (go (leb a b) (leb b a) (eqb a b) refl 
     go false t true e f g = let p = leb-false a b e in let q = eqb-true a b g in absurd (omega arith)
     go false t false e f g = refl
 
+-- different numbers have different indices
+pub idx-same : (a b : ℕ) → idx a ≡ idx b → a ≡ b
+idx-same a b same = eqb-true a b (sym (idx-eq a b) ∙ ap (λ i. eqZ (i .at) (idx b .at)) same ∙ idx-eq b b ∙ eq-eqb b b refl)
+
 -- h < T − d
 pub idx-below : (h t d : ℕ) → belowByMore (idx h) (idx t) d ≡ ltb (h + d) t
 idx-below h t d =
@@ -163,6 +167,13 @@ idx-in-range k = rw (idx-le 0 k, le-leb 0 k zero-le) (idx-le k 2147483649)
 
 pub idx-slot-in-range : (k : ℕ) → slotIndexInRange (idx k) ≡ (leb 1 k && leb k 2147483649)
 idx-slot-in-range k = rw (idx-le 1 k) (ap (λ b. leb 1 k && b) (idx-le k 2147483649))
+
+-- an index of such a number
+pub index-ranged : (i : Index) (k : ℕ) → i ≡ idx k → k ≤ 2147483649 → indexInRange i ≡ true
+index-ranged i k here most = ap indexInRange here ∙ idx-in-range k ∙ le-leb k 2147483649 most
+
+pub slot-ranged : (i : Index) (k : ℕ) → i ≡ idx k → 1 ≤ k → k ≤ 2147483649 → slotIndexInRange i ≡ true
+slot-ranged i k here least most = ap slotIndexInRange here ∙ idx-slot-in-range k ∙ rw (le-leb 1 k least) (le-leb k 2147483649 most)
 
 -- ── Slots ───────────────────────────────────────────────────────────────────────────────────────────────────────────────────
 
