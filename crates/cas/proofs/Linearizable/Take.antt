@@ -1,6 +1,6 @@
 -- Each step of a take keeps the invariant, and is answered as the plain queue answers.
 use mathlib.Core.Path.{_≡_, refl, ap, sym, _∙_, subst}
-use mathlib.Core.Bool.{true, false, not}
+use mathlib.Core.Bool.{Bool, true, false, not}
 use mathlib.Core.List.{[], _∷_}
 use Prim.Native.Nat.{ℕ, _+_, _-_, _≤_, _<_}
 use native.Mathlib.Nat.{le-refl}
@@ -26,6 +26,10 @@ use Rattle.cas.specs.Entries.{stepOfWorker, workerView}
 use Rattle.cas.proofs.Linearizable.Invariant.{AgreesOn, Sound}
 use Rattle.cas.proofs.Linearizable.Rebuild.{afterWorker, agrees-call, aimOf-raised, rebuilt, recalled, sure-raised, sure-tasks, tail-agrees}
 use Rattle.cas.proofs.Linearizable.Turn.{MoveTurn, StepTurn, answers-owed, making, stayed, thieves-alone}
+
+-- a take that comes to its swap is told to the plain queue as one of a swap, won or lost
+abbrev by-swap : Bool
+by-swap = true
 
 module _ {n : ℕ} {m : Machine} (q : PlainQueue) where
   -- ── Step 1 ──────────────────────────────────────────────────────────────────────────────────────────────────────────────────
@@ -233,7 +237,7 @@ module _ {n : ℕ} {m : Machine} (q : PlainQueue) where
           aims = λ i. aimOf-raised (m .sizes .start) head (thiefCall m i) (v .aims i);
         } in
         record {
-          told = toldTake true ∷ [];
+          told = toldTake by-swap ∷ [];
           told-is = refl;
           others = thieves-alone m _ refl;
           sound = sound;
@@ -242,8 +246,8 @@ module _ {n : ℕ} {m : Machine} (q : PlainQueue) where
               let last : head + (length (q .tasks) - 1) ≡ v .head .saw = omega arith in
               let number : taskAt (q .tasks) (length (q .tasks) - 1) .number ≡ workerLoad m t =
               g .shows (length (q .tasks) - 1) (omega arith) ∙ ap (λ k. workerLoad m (idx k)) last ∙ ap (workerLoad m) (sym (v .tail .holds .0)) in
-              let none-left : length (afterTake q true .tasks) ≡ 0 = simp length-take (omega arith) in
-              takes-effect {A = AgreesOn sound} (replies-taken q true (omega arith)) refl refl (ap (λ x. Task x ∷ []) (sym number))
+              let none-left : length (afterTake q by-swap .tasks) ≡ 0 = simp length-take (omega arith) in
+              takes-effect {A = AgreesOn sound} (replies-taken q by-swap (omega arith)) refl refl (ap (λ x. Task x ∷ []) (sym number))
               (record {
                 enough = g .enough;
                 count = omega arith;
@@ -261,12 +265,12 @@ module _ {n : ℕ} {m : Machine} (q : PlainQueue) where
         let apart : v .head .saw ≡ v .head .at → ⊥ = eqb-false (v .head .saw) (v .head .at) (known still-is gone) in
         let past : v .buffer .seen ≡ v .head .saw + 1 = v .tail .holds .1 in
         record {
-          told = toldTake true ∷ [];
+          told = toldTake by-swap ∷ [];
           told-is = refl;
           others = thieves-alone m _ refl;
           sound = recalled v WorkerCall.Idle (record { holds = tt; floor = v .tail .floor; top = v .tail .top }) (v .spaced);
           turn = λ g.
-              answers-at-once (replies-empty q true (omega (arith, g .count, v .head .reached))) refl refl refl (agrees-call refl (g .room) g);
+              answers-at-once (replies-empty q by-swap (omega (arith, g .count, v .head .reached))) refl refl refl (agrees-call refl (g .room) g);
         }
 
     pub take-swap-head : StepTurn v q (stepOfWorker m (TakeSwapHead t))
