@@ -1,5 +1,6 @@
 pub mod Laws
 pub mod Lawful
+pub mod Obeys
 pub mod Account
 pub mod Sum
 pub mod Turn

@@ -11,6 +11,7 @@ use Rattle.terms.specs.Kinds.{thiefIsThere}
 use Rattle.terms.proofs.Laws.Tests.{by-test, either}
 use Rattle.stores.specs.Spacing.{tooEarly}
 use Rattle.claim.specs.Calls.{isStep}
+use Rattle.claim.proofs.Obeys as every
 use Rattle.claim.proofs.Lawful.{Lawful, party-there}
 use Rattle.machine.specs.Types.{Done, Entry, Drain, ClientStore, BeginPut, BeginTake, WorkerStep, BeginSteal, ThiefStep, Machine, Outcome, Moved, Place, Wait, Thief, ThiefCall, StealLock, StealLoadHead, StealRaiseHead, StealLoadTail, StealLoadSlot, StealUnlockTask, StealRestoreHead, StealUnlockAbort, WorkerCall, PutLoadHead, PutStoreSlot, PutStoreTail, TakeStoreTail, TakeLoadHead, TakeLoadSlot, TakeLock, TakeReloadHead, TakeRestoreTail, TakeUnlockEmpty, TakeUnlockTask, TakeLoadLastSlot, ThiefMove, WorkerMove}
 use Rattle.machine.specs.Machine.{done, hasRoom, hidden, lockIsFree, nothingPending, thiefCall, thiefTail}
@@ -23,22 +24,18 @@ use Rattle.machine.specs.Linearizable.{ffThe}
 use Rattle.machine.specs.Perform.{viewKeeping, workerView, performWorker, stepOfWorker, stepKeeping, performThief}
 
 -- What holds of the result d of an entry e on the machine m.
-pub record Obeys (m : Machine) (e : Entry) (d : Done) : Type 0 where
-  pub keeps : isRefusal (d .outcome) ≡ true → d .machine ≡ m
-  pub sizes : d .machine .sizes ≡ m .sizes
-  pub answers : isAnswer (d .outcome) ≡ true → isStep e ≡ true
-  pub hands-on : d .hidden ≡ hidden (d .machine)
+abbrev pub Obeys : Machine → Entry → Done → Type 0
+Obeys m e d = every.Obeys (λ m. m .sizes) hidden m e (d .outcome) (d .hidden) (d .machine)
 
 module _ {m : Machine} {e : Entry} where
-  -- handed back as it was
   refuses : {o : Outcome} → isAnswer o ≡ false → Obeys m e (done o m)
-  refuses no-answer = record { keeps = λ r. refl; sizes = refl; answers = λ a. absurd (false≢true (sym no-answer ∙ a)); hands-on = refl }
+  refuses = every.refuses (λ m. m .sizes) hidden
 
   moves : {n : Machine} → n .sizes ≡ m .sizes → Obeys m e (done Moved n)
-  moves same = record { keeps = λ r. absurd (false≢true r); sizes = same; answers = λ a. absurd (false≢true a); hands-on = refl }
+  moves = every.moves (λ m. m .sizes) hidden
 
   answers : {n : Machine} {o : Outcome} → isRefusal o ≡ false → n .sizes ≡ m .sizes → isStep e ≡ true → Obeys m e (done o n)
-  answers no-refusal same step = record { keeps = λ r. absurd (false≢true (sym no-refusal ∙ r)); sizes = same; answers = λ a. step; hands-on = refl }
+  answers = every.answers (λ m. m .sizes) hidden
 
 -- .. of a move of the worker's; and of one that leaves all as it is, where the worker's call is its own
 abbrev WorkerObeys : Machine → WorkerMove → Type 0

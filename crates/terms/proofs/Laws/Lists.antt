@@ -176,3 +176,9 @@ module _ {A : Type 0} (l : List A) where
 pub take-drop-one : {A : Type 0} (k : ℕ) (l : List A) → take k (drop 1 l) ≡ drop 1 (take (k + 1) l)
 take-drop-one k [] = simp (add-one, take-nil)
 take-drop-one k (x ∷ l) = rw add-one
+
+-- a list of one value everywhere, after a store of that value
+pub set-same : {A : Type 0} (n k : ℕ) (x : A) → set (replicate n x) k x ≡ replicate n x
+set-same zero k x = refl
+set-same (suc n) zero x = refl
+set-same (suc n) (suc k) x = ap (λ l. x ∷ l) (set-same n k x)

@@ -7,17 +7,12 @@ use native.Mathlib.Omega.{arith}
 use lib.IntN.{ℤ}
 use lib.ListN.{replicate, set}
 use borrow.Author.Needs.{needs}
+use Rattle.terms.proofs.Laws.Lists.{set-same}
 use Rattle.stores.proofs.Laws.Words.{number-small, small-read}
 use Rattle.machine.specs.Types.{Client, Machine, Nobody, Sizes, Store, Thief, WorkerCall}
 use Rattle.machine.specs.Thief.{idleThief}
 use Rattle.machine.proofs.machine.Machine.fresh.Statement.{statement}
 use Rattle.machine.proofs.machine.Machine.fresh.Tie as tie
-
--- a list of one value everywhere, after a store of that value
-set-same : {A : Type 0} (n k : ℕ) (x : A) → set (replicate n x) k x ≡ replicate n x
-set-same zero k x = refl
-set-same (suc n) zero x = refl
-set-same (suc n) (suc k) x = ap (λ l. x ∷ l) (set-same n k x)
 
 -- the machine before the first entry, by its start and its arrays
 abbrev built : Sizes → ℤ → List Store → List Thief → Machine
