@@ -123,6 +123,6 @@ machineAfter m es = after (λ m e. obey m e .machine) m es
 abbrev pub outcomesOf : Machine → List Entry → List Outcome
 outcomesOf m es = each (λ m e. obey m e .machine) (λ m e. obey m e .outcome) m es
 
--- A run of at most 4,096 entries never leads out of range, whichever margin is set. Proved in `proofs/Linearizable/Theorem.antt`.
+-- A run of at most 4,096 entries never leads out of range, whichever margin is set. Proved in `proofs/Linearizable/AnyMargin.antt`.
 abbrev pub RunInRange : Type 0
 RunInRange = (s : Sizes) (es : List Entry) → sizesInRange s ≡ true → length es ≤ 4096 → inRange (machineAfter (fresh s) es) ≡ true

@@ -4,14 +4,12 @@ use mathlib.Core.Path.{_≡_, refl, ap, sym, _∙_, subst}
 use mathlib.Core.Bool.{true}
 use Prim.Native.Nat.{ℕ, _≤_}
 use native.Mathlib.Omega.{arith}
-use lib.ListN.{length, length-take}
 use borrow.Author.Tests.{le-leb}
 use Rattle.terms.specs.Sizes.{neededMargin, sizesInRange}
 use Rattle.terms.proofs.Laws.Lists.{all-each}
 use Rattle.stores.specs.Look.{memoryInRange}
-use Rattle.stores.specs.StoreBuffer.{pending, takeStores}
 use Rattle.stores.proofs.Laws.Index.{index-ranged, slot-ranged}
-use Rattle.stores.proofs.Laws.Chain.{chain-needed, chain-takeStores}
+use Rattle.stores.proofs.Laws.Pending.{takes-needed}
 use Rattle.claim.specs.Watch.{Watch, watchFresh, watched}
 use Rattle.claim.proofs.Watched.{watched-machine}
 use Rattle.cas.specs.Types.{Machine, Sizes, ThiefCall, StealLoadHead, StealLoadTail, StealLoadSlot, StealSwapHead, WorkerCall, PutLoadHead, PutStoreSlot, PutStoreTail, TakeStoreTail, TakeLoadHead, TakeLoadSlot, TakeTailToHead, TakeTailPastHead, TakeSwapHead, TakeLoadLastSlot}
@@ -75,10 +73,5 @@ pub take-stores-within-needed : TakeStoresWithinNeeded
 take-stores-within-needed s es ranged =
     let v = run-from-fresh s es ranged in
     let m = watched ffCl (watchFresh ffCl s) es .machine in
-    let b = v .sound .buffer in
-    let short : length (pending (m .buffer)) ≤ m .sizes .buffer = simp length-take (omega (arith, b .fits)) in
-    let dips : takesPending m ≡ b .dips = ap (λ t. takeStores t (pending (m .buffer))) (b .tail-is) ∙ chain-takeStores (b .chain) in
-    let few : b .dips ≤ neededMargin (m .sizes .buffer) (m .sizes .spacing) = chain-needed (m .sizes .buffer) (b .few) short (b .chain) in
-    let here : takesPending m ≤ neededMargin (m .sizes .buffer) (m .sizes .spacing) = omega arith in
     subst (λ m. takesPending m ≤ neededMargin (s .buffer) (s .spacing)) (watched-machine ffCl (watchFresh ffCl s) es)
-    (subst (λ s. takesPending m ≤ neededMargin (s .buffer) (s .spacing)) (v .sizes-are) here)
+    (subst (λ s. takesPending m ≤ neededMargin (s .buffer) (s .spacing)) (v .sizes-are) (takes-needed (v .sound .buffer)))

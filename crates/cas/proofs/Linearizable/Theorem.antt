@@ -6,18 +6,17 @@ use Prim.Native.Nat.{ℕ, zero, suc, _+_, _≤_, zero-le}
 use native.Mathlib.Nat.{le-refl, not-suc-le-zero}
 use native.Mathlib.Omega.{arith}
 use lib.ListN.{getD, length, replicate}
-use borrow.Author.Tests.{le-leb, leb-true, ltb-true}
+use borrow.Author.Tests.{leb-true, ltb-true}
 use Rattle.terms.specs.Kinds.{thiefIsThere}
 use Rattle.terms.specs.Lists.{all, range}
 use Rattle.terms.specs.Sizes.{enoughMargin, marginInUse, neededMargin, sizesInRange}
 use Rattle.terms.proofs.Laws.Sizes.{SizeBounds, sizes-bounds}
 use Rattle.terms.proofs.Laws.Tests.{and-left, and-right, decide}
-use Rattle.stores.specs.Index.{indexInRange, next}
+use Rattle.stores.specs.Index.{next}
 use Rattle.stores.specs.Load.{loadedBetween}
-use Rattle.stores.proofs.Laws.Index.{idx, idx-as, idx-in-range, idx-next, idx-of}
+use Rattle.stores.proofs.Laws.Index.{idx, idx-as, idx-next, idx-of}
 use Rattle.stores.proofs.Laws.Load.{loaded-between}
-use Rattle.stores.proofs.Laws.Chain.{none}
-use Rattle.stores.proofs.Laws.Pending.{seen-tail}
+use Rattle.stores.proofs.Laws.Pending.{none-pending, seen-tail}
 use Rattle.claim.specs.PlainQueue.{PlainQueue}
 use Rattle.claim.specs.Calls.{Party, worker, thief, begunBy, isNothing, noCall, partyOf}
 use Rattle.claim.specs.Linearizable.{noCallRuns}
@@ -88,23 +87,7 @@ fresh-sound s b =
       sizes = b;
       memory = refl;
       long = refl;
-      buffer =
-          record {
-            landed = s .start + 1;
-            seen = s .start + 1;
-            due = 0;
-            dips = 0;
-            owed = 0;
-            bound = 0;
-            tail-is = idx-of (s .start);
-            tail-after = refl;
-            chain = none zero-le;
-            few = zero-le;
-            fits = zero-le;
-            cells = refl;
-            ranged = refl;
-            tail-ranged = ap indexInRange (idx-of (s .start)) ∙ idx-in-range (s .start + 1) ∙ le-leb (s .start + 1) 2147483649 (omega (arith, b .start-most));
-          };
+      buffer = none-pending s (replicate 256 0) (b .start-most);
       head = record { at = s .start + 1; is = idx-of (s .start); saw = s .start + 1; floor = le-refl (s .start + 1); reached = le-refl (s .start + 1); top = omega (arith, b .start-most) };
       tail = record { holds = tt; floor = omega arith; top = omega (arith, b .start-most) };
       spaced = zero-le;

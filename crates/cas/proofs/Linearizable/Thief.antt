@@ -144,7 +144,7 @@ module _ {n : ℕ} {m : Machine} (v : Holds n m) (q : PlainQueue) (i : ℕ) (the
         let most = leb-true (v .buffer .landed) 2147483649 (sym (idx-in-range (v .buffer .landed)) ∙ ap indexInRange (sym (v .buffer .tail-is)) ∙ v .buffer .tail-ranged) in
         record { at = aim .at; is = aim .is; floor = aim .floor; reached = aim .reached; top = omega (arith, kept far, marginInUse-some (m .sizes) (v .sizes .buffer-least)) }
 
-    -- The one use of the margin: where h is head, a task stands, and no pending store is to its slot.
+    -- The one use of a margin that is enough: where h is head, a task stands, and no pending store is to its slot.
     sure : withinMargin h (thiefView m (StealLoadTail h)) ≡ false → AgreesOn v q → h ≡ m .head → SureIn v q
     sure far g here =
         let head = v .head .at in

@@ -3,22 +3,23 @@
 use mathlib.Core.Path.{_≡_, refl, ap, sym, _∙_, subst}
 use mathlib.Core.Bool.{true, _&&_}
 use mathlib.Core.List.{List, [], _∷_, _++_, append-assoc, foldl, foldl-append}
-use Prim.Native.Nat.{ℕ, suc, _+_, _-_, _≤_, _<_}
+use Prim.Native.Nat.{ℕ, suc, _+_, _-_, _≤_, _<_, zero-le}
 use native.Mathlib.Nat.{le-refl}
 use native.Mathlib.Omega.{arith}
 use lib.ListN.{getD, length, length-append, length-drop, length-set, length-take}
 use borrow.Author.Tests.{le-leb}
 use Rattle.terms.specs.Lists.{all}
+use Rattle.terms.specs.Sizes.{neededMargin}
 use Rattle.terms.specs.declared.sizes.Sizes.{Sizes}
 use Rattle.terms.proofs.Laws.Lists.{all-snoc}
 use Rattle.terms.proofs.Laws.Sizes.{SizeBounds}
 use Rattle.terms.proofs.Laws.Tests.{and-left, and-right}
 use Rattle.stores.specs.Types.{Index, Store, StoreBuffer}
-use Rattle.stores.specs.Index.{indexInRange, slotOf}
-use Rattle.stores.specs.StoreBuffer.{dropOldest, newestTail, oldest, pending, push, slotsAfter, storeInRange, tailAfter, tailStore}
-use Rattle.stores.proofs.Laws.Index.{idx, idx-in-range}
+use Rattle.stores.specs.Index.{indexInRange, indexOf, slotOf}
+use Rattle.stores.specs.StoreBuffer.{dropOldest, emptyBuffer, newestTail, oldest, pending, push, slotsAfter, storeInRange, tailAfter, tailStore, takeStores}
+use Rattle.stores.proofs.Laws.Index.{idx, idx-in-range, idx-of, index-ranged}
 use Rattle.stores.proofs.Laws.StoreBuffer.{pending-dropped, push-pending, slotsAfter-length, slotsAfter-slotAfter, tailAfter-in-range}
-use Rattle.stores.proofs.Laws.Chain.{Chain, SlotsWithin, down, none, up, chain-land, chain-push, chain-raise, chain-tail, slots-land}
+use Rattle.stores.proofs.Laws.Chain.{Chain, SlotsWithin, down, none, up, chain-land, chain-needed, chain-push, chain-raise, chain-tail, chain-takeStores, slots-land}
 use Rattle.stores.proofs.Laws.Slots.{slots-leave-one}
 
 -- ── Memory, and the stores above it ─────────────────────────────────────────────────────────────────────────────────────────
@@ -59,6 +60,35 @@ pub record Pending (z : Sizes) (g : Memory) (tail : Index) (b : StoreBuffer) : T
   -- each is in range, and so is memory's tail
   pub ranged : all (λ a. storeInRange (a .kind)) (unlanded g b) ≡ true
   pub tail-ranged : indexInRange (g .tail) ≡ true
+
+-- ── At first, and how many are of takes ─────────────────────────────────────────────────────────────────────────────────────
+
+-- none is pending, and the tail is at start
+abbrev pub none-pending : (z : Sizes) (slots : List ℕ) → z .start ≤ 2147483647 → Pending z (record { front = []; tail = indexOf (z .start); slots = slots }) (indexOf (z .start)) emptyBuffer
+none-pending z slots most =
+    record {
+      landed = z .start + 1;
+      seen = z .start + 1;
+      due = 0;
+      dips = 0;
+      owed = 0;
+      bound = 0;
+      tail-is = idx-of (z .start);
+      tail-after = refl;
+      chain = none zero-le;
+      few = zero-le;
+      fits = zero-le;
+      cells = refl;
+      ranged = refl;
+      tail-ranged = index-ranged (indexOf (z .start)) (z .start + 1) (idx-of (z .start)) (omega arith);
+    }
+
+-- with nothing below the buffer, the take stores that are pending are at most as many as the needed margin
+pub takes-needed : {z : Sizes} {i t : Index} {slots : List ℕ} {b : StoreBuffer} → Pending z (record { front = []; tail = i; slots = slots }) t b
+    → takeStores i (pending b) ≤ neededMargin (z .buffer) (z .spacing)
+takes-needed {z = z} {b = b} v =
+    let short : length (pending b) ≤ z .buffer = simp length-take (omega (arith, v .fits)) in
+    omega (arith, ap (λ i. takeStores i (pending b)) (v .tail-is), chain-takeStores (v .chain), chain-needed (z .buffer) (v .few) short (v .chain))
 
 -- ── One more ────────────────────────────────────────────────────────────────────────────────────────────────────────────────
 
