@@ -5,17 +5,14 @@ use mathlib.Core.Bool.{Bool, true, false, false≢true}
 use mathlib.Core.List.{List}
 use Prim.Native.Nat.{ℕ, _+_, _≤_}
 use native.Mathlib.Omega.{arith}
-use lib.ListN.{length, length-take}
 use borrow.Author.Tests.{le-leb}
 use Rattle.terms.specs.Sizes.{neededMargin, sizesInRange}
 use Rattle.terms.proofs.Laws.Lists.{all-each}
-use Rattle.stores.specs.Index.{indexInRange, slotIndexInRange}
-use Rattle.stores.specs.StoreBuffer.{pending, takeStores}
 use Rattle.stores.specs.Look.{memoryInRange}
-use Rattle.stores.proofs.Laws.Index.{idx, idx-in-range, idx-slot-in-range}
-use Rattle.stores.proofs.Laws.Chain.{chain-needed, chain-takeStores}
+use Rattle.stores.proofs.Laws.Index.{index-ranged, slot-ranged}
+use Rattle.stores.proofs.Laws.Pending.{takes-needed}
 use Rattle.claim.specs.Watch.{Watch, watchFresh, watched}
-use Rattle.machine.specs.Types.{Entry, Index, Machine, Sizes, ThiefCall, StealLock, StealLoadHead, StealRaiseHead, StealLoadTail, StealLoadSlot, StealUnlockTask, StealRestoreHead, StealUnlockAbort, WorkerCall, PutLoadHead, PutStoreSlot, PutStoreTail, TakeStoreTail, TakeLoadHead, TakeLoadSlot, TakeLock, TakeReloadHead, TakeRestoreTail, TakeUnlockEmpty, TakeUnlockTask, TakeLoadLastSlot}
+use Rattle.machine.specs.Types.{Entry, Machine, Sizes, ThiefCall, StealLock, StealLoadHead, StealRaiseHead, StealLoadTail, StealLoadSlot, StealUnlockTask, StealRestoreHead, StealUnlockAbort, WorkerCall, PutLoadHead, PutStoreSlot, PutStoreTail, TakeStoreTail, TakeLoadHead, TakeLoadSlot, TakeLock, TakeReloadHead, TakeRestoreTail, TakeUnlockEmpty, TakeUnlockTask, TakeLoadLastSlot}
 use Rattle.machine.specs.Thief.{idleThief, thiefInRange}
 use Rattle.machine.specs.Machine.{fresh, takesPending, thiefCall}
 use Rattle.machine.specs.Worker.{workerInRange}
@@ -28,12 +25,6 @@ use Rattle.claim.proofs.Watched.{watched-machine}
 use Rattle.machine.proofs.Linearizable.Theorem.{fresh-plain, run-invariant}
 
 -- ── In range ────────────────────────────────────────────────────────────────────────────────────────────────────────────────
-
-index-ranged : (i : Index) (k : ℕ) → i ≡ idx k → k ≤ 2147483649 → indexInRange i ≡ true
-index-ranged i k here most = ap indexInRange here ∙ idx-in-range k ∙ le-leb k 2147483649 most
-
-slot-ranged : (i : Index) (k : ℕ) → i ≡ idx k → 1 ≤ k → k ≤ 2147483649 → slotIndexInRange i ≡ true
-slot-ranged i k here least most = ap slotIndexInRange here ∙ idx-slot-in-range k ∙ rw (le-leb 1 k least) (le-leb k 2147483649 most)
 
 module _ {g : Environment} {n : ℕ} {m : Machine} {p : ThiefCall} where
   worker-ranged : (c : WorkerCall) → Sound g n m c p → workerInRange c ≡ true
@@ -109,11 +100,5 @@ pub run-take-stores :
     → takesPending (machineAfter (fresh s) es) ≤ neededMargin (s .buffer) (s .spacing)
 run-take-stores s es ranged =
     let v = run-invariant s 0 (watchFresh ffThe s) es (fresh-plain s ranged) in
-    let m = watched ffThe (watchFresh ffThe s) es .machine in
-    let b = v .sound .buffer in
-    let short : length (pending (m .buffer)) ≤ m .sizes .buffer = simp length-take (omega (arith, b .fits)) in
-    let dips : takesPending m ≡ b .dips = ap (λ t. takeStores t (pending (m .buffer))) (b .tail-is) ∙ chain-takeStores (b .chain) in
-    let few : b .dips ≤ neededMargin (m .sizes .buffer) (m .sizes .spacing) = chain-needed (m .sizes .buffer) (b .few) short (b .chain) in
-    let here : takesPending m ≤ neededMargin (m .sizes .buffer) (m .sizes .spacing) = omega arith in
     subst (λ m. takesPending m ≤ neededMargin (s .buffer) (s .spacing)) (watched-machine ffThe (watchFresh ffThe s) es)
-    (subst (λ s. takesPending m ≤ neededMargin (s .buffer) (s .spacing)) (v .sizes-are) here)
+    (subst (λ s′. takesPending (watched ffThe (watchFresh ffThe s) es .machine) ≤ neededMargin (s′ .buffer) (s′ .spacing)) (v .sizes-are) (takes-needed (v .sound .buffer)))

@@ -5,19 +5,18 @@ use mathlib.Core.List.{List, [], map, _∷_}
 use Prim.Native.Nat.{ℕ, zero, suc, _+_, _-_, _≤_, _<_, zero-le}
 use native.Mathlib.Nat.{le-refl, not-suc-le-zero}
 use native.Mathlib.Omega.{arith}
-use lib.IntN.{pos, _+ℤ_, _-ℤ_}
 use lib.ListN.{getD, length, replicate}
-use borrow.Author.Tests.{eq-eqb, le-leb}
+use borrow.Author.Tests.{eq-eqb}
 use Rattle.terms.specs.Sizes.{enoughMargin, marginInUse, sizesInRange}
 use Rattle.terms.specs.Lists.{all, range}
 use Rattle.terms.proofs.Laws.Tests.{and-left, and-right}
 use Rattle.terms.proofs.Laws.Sizes.{SizeBounds, marginInUse-some, sizes-bounds}
 use Rattle.terms.proofs.Laws.Lists.{all-map, all-range}
-use Rattle.stores.specs.Index.{indexInRange, next}
-use Rattle.stores.specs.Load.{loadedBetween, stepsUp}
-use Rattle.stores.proofs.Laws.Index.{idx, idx-as, idx-in-range, idx-minus, idx-next, idx-of, idx-plus}
-use Rattle.stores.proofs.Laws.Chain.{none}
-use Rattle.stores.proofs.Laws.Pending.{seen-tail}
+use Rattle.stores.specs.Index.{next}
+use Rattle.stores.specs.Load.{loadedBetween}
+use Rattle.stores.proofs.Laws.Index.{idx, idx-as, idx-next, idx-of}
+use Rattle.stores.proofs.Laws.Load.{loaded-between}
+use Rattle.stores.proofs.Laws.Pending.{none-pending, seen-tail}
 use Rattle.claim.specs.PlainQueue.{PlainQueue, emptyQueue}
 use Rattle.claim.specs.Calls.{Begun, aSteal, Party, PartyCall, worker, thief, answersTo, isNothing, noCall, parties}
 use Rattle.claim.specs.Watch.{Watch, watchFresh, watched}
@@ -54,23 +53,7 @@ fresh-sound isTold margin some s b =
       memory = refl;
       margin-some = some;
       slots-after = refl;
-      buffer =
-          record {
-            landed = s .start + 1;
-            seen = s .start + 1;
-            due = 0;
-            dips = 0;
-            owed = 0;
-            bound = 0;
-            tail-is = idx-of (s .start);
-            tail-after = refl;
-            chain = none zero-le;
-            few = zero-le;
-            fits = zero-le;
-            cells = refl;
-            ranged = refl;
-            tail-ranged = ap indexInRange (idx-of (s .start)) ∙ idx-in-range (s .start + 1) ∙ le-leb (s .start + 1) 2147483649 (omega (arith, b .start-most));
-          };
+      buffer = none-pending s (replicate 256 0) (b .start-most);
       head =
           record {
             lo = s .start + 1;
@@ -157,14 +140,10 @@ module _ {E : Type 0} {s : Sizes} {n : ℕ} {g : Environment} {m : Machine} {q :
       → map (λ t. t .number) (q .tasks) ≡ loadedBetween (workerLoad m) from to
   shown-between from to low high =
       let a : ℕ = v .sound .head .lo + stolen (v .inside) in
-      let b : ℕ = v .sound .buffer .seen + lowered (m .worker .call) in
-      let c = v .agrees enough .count in
-      let steps : stepsUp (to .at -ℤ from .at) ≡ length (q .tasks) =
-      (λ j. stepsUp (high j .at -ℤ low j .at)) ∙ ap stepsUp (idx-minus b a (omega (arith, v .sound .head .floor)) (omega arith)) ∙ omega arith in
-      shows-list (λ k. workerLoad m (idx k)) a (q .tasks) (v .agrees enough .shows) ∙ sym (λ j. map (λ k. load k j) (range (steps j)))
-    where
-      load : (k : ℕ) → workerLoad m (record { at = from .at +ℤ pos k }) ≡ workerLoad m (idx (v .sound .head .lo + stolen (v .inside) + k))
-      load k = ap (λ i. workerLoad m (record { at = i .at +ℤ pos k })) low ∙ ap (workerLoad m) (idx-plus (v .sound .head .lo + stolen (v .inside)) k)
+      let n : ℕ = length (q .tasks) in
+      let same : v .sound .buffer .seen + lowered (m .worker .call) ≡ a + n = omega (arith, v .agrees enough .count) in
+      shows-list (λ k. workerLoad m (idx k)) a (q .tasks) (v .agrees enough .shows)
+      ∙ sym (loaded-between (workerLoad m) from to a n low (high ∙ ap idx same) (omega (arith, v .sound .head .floor)))
 
   -- at every moment
   stands-now : map (λ t. t .number) (q .tasks) ≡ standingNow m
