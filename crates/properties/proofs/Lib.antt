@@ -1,8 +1,10 @@
 pub mod Laws
 pub mod Renumbering
+pub mod CasRenumbering
 pub mod ExactlyOnce
 pub mod Accounts
 pub mod CallLength
 pub mod TakesApart
 pub mod Hidden
 pub mod TakeStores
+pub mod FfCl

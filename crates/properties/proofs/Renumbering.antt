@@ -1,29 +1,25 @@
 -- No step of FF-THE depends on a task's number: a machine whose tasks are numbered anew does what the machine does, numbered anew.
-use mathlib.Core.Path.{_≡_, refl, ap, sym, _∙_}
-use mathlib.Core.Bool.{cond, not, _&&_}
+use mathlib.Core.Path.{_≡_, refl, ap, _∙_}
+use mathlib.Core.Bool.{not, _&&_}
 use mathlib.Core.List.{List, map}
 use Prim.Native.Nat.{ℕ}
 use lib.ListN.{List·getD-map}
-use Rattle.terms.specs.Kinds.{thiefIsThere}
 use Rattle.terms.proofs.Laws.Tests.{cond-map}
 use Rattle.terms.proofs.Laws.Lists.{all-map, map-set}
-use Rattle.stores.specs.Index.{slotOf}
 use Rattle.stores.specs.Lock.{isNobody}
 use Rattle.stores.specs.Spacing.{tooEarly}
-use Rattle.stores.specs.StoreBuffer.{oldest}
 use Rattle.machine.specs.Worker.{atEnd, atOrAboveHead, headIsPast, isFull, loads, workerInRange, workerMove, workerRuns}
 use Rattle.machine.specs.Thief.{idleThief, keepsMargin, loads as thiefLoads, thiefInRange, thiefMove, thiefRuns}
 use Rattle.machine.specs.Machine.{done, fresh, hasRoom, memoryLoads, nothingPending, thiefCall, workerLoads}
-use Rattle.machine.specs.Update.{withLock, withMemory, withStore, withThief, withWorker}
-use Rattle.stores.specs.Look.{memoryInRange}
+use Rattle.machine.specs.Update.{withLock, withMemory, withStore, withWorker}
 use Rattle.machine.specs.InRange.{inRange}
 use Rattle.machine.specs.Obey.{obey, obeyInRange}
 use Rattle.machine.specs.Linearizable.{ffThe}
 use Rattle.machine.specs.Perform.{thiefView, workerView, performWorker, stepOfWorker, performThief, stepOfThief}
-use Rattle.machine.specs.Entries.{drain, drained, unlessWorkerRuns, workerGoesOn}
-use Rattle.properties.specs.Types.{Entry, Drain, ClientStore, BeginPut, BeginTake, WorkerStep, BeginSteal, ThiefStep, Done, Load, NoSlot, SlotOf, Machine, Outcome, Moved, Wait, Client, Push, One, TheClient, Thief, ThiefCall, StealLock, StealLoadHead, StealRaiseHead, StealLoadTail, StealLoadSlot, StealUnlockTask, StealRestoreHead, StealUnlockAbort, ThiefView, ThiefMove, WorkerCall, PutLoadHead, PutStoreSlot, PutStoreTail, TakeStoreTail, TakeLoadHead, TakeLoadSlot, TakeLock, TakeReloadHead, TakeRestoreTail, TakeUnlockEmpty, TakeUnlockTask, TakeLoadLastSlot, WorkerView, WorkerMove}
+use Rattle.machine.specs.Entries.{unlessWorkerRuns, workerGoesOn}
+use Rattle.properties.specs.Types.{Entry, Drain, ClientStore, BeginPut, BeginTake, WorkerStep, BeginSteal, ThiefStep, Done, Machine, Moved, Client, Push, One, TheClient, Thief, ThiefCall, StealLock, StealLoadHead, StealRaiseHead, StealLoadTail, StealLoadSlot, StealUnlockTask, StealRestoreHead, StealUnlockAbort, ThiefView, ThiefMove, WorkerCall, PutLoadHead, PutStoreSlot, PutStoreTail, TakeStoreTail, TakeLoadHead, TakeLoadSlot, TakeLock, TakeReloadHead, TakeRestoreTail, TakeUnlockEmpty, TakeUnlockTask, TakeLoadLastSlot, WorkerView, WorkerMove}
 use Rattle.properties.specs.Renumbering.{BlindToNumbers, renumberEntry, renumberOutcome}
-use Rattle.properties.proofs.Laws.Renumbering.{blind-by-renumbering, count-renumber, drop-oldest-renumber, entry-blind, oldest-renumber, push-renumber, ranged-renumber, renumberBuffer, renumberPush, slots-renumber, tail-after-renumber, tail-renumber, thief-load-renumber, worker-load-renumber, zeros-renumber}
+use Rattle.properties.proofs.Laws.Renumbering.{blind-by-renumbering, choice-renumber, count-renumber, drained-renumber, loads-renumber, looked-at-renumber, memory-renumber, push-renumber, renumberBuffer, renumberPush, tail-renumber, thief-load-renumber, worker-load-renumber, zeros-renumber}
 
 -- the thieves replaced
 abbrev withThieves : List Thief → Machine → Machine
@@ -135,13 +131,16 @@ module _ (f : ℕ → ℕ) where
   thief-blind g task StealUnlockAbort = refl
 
   in-range-renumber : (m : Machine) → inRange (renumber m) ≡ inRange m
-  unfolding inRange memoryInRange
+  unfolding inRange
   in-range-renumber m =
       rw (
-        ranged-renumber f (m .buffer),
+        memory-renumber f (m .sizes) (m .head) (m .tail) (m .buffer) (m .spacing),
         worker-blind workerInRange (λ x. refl) (λ x. refl) (m .worker .call),
         all-map renumberThief (λ t. thiefInRange (t .call)) (λ t. thief-blind thiefInRange (λ x. refl) (t .call)) (m .thieves),
       )
+
+  thief-call-renumber : (m : Machine) (i : ℕ) → thiefCall (renumber m) i ≡ renumberSteal (thiefCall m i)
+  thief-call-renumber m i = ap (λ t. t .call) (List·getD-map renumberThief (m .thieves) i idleThief)
 
   -- ── What an entry changes ───────────────────────────────────────────────────────────────────────────────────────────────────
 
@@ -149,35 +148,14 @@ module _ (f : ℕ → ℕ) where
   store-renumber : (p : Push) (m : Machine) → withStore (renumberPush f p) (renumber m) ≡ renumber (withStore p m)
   store-renumber p m = rw (push-renumber f p (m .buffer), count-renumber f p (m .spacing))
 
-  -- a drain
-  drained-renumber : (m : Machine) → drained (renumber m) ≡ renumber (drained m)
-  drained-renumber m =
-      let k = oldest (m .buffer) .kind in
-      rw (
-        oldest-renumber f (m .buffer),
-        slots-renumber f (m .sizes .slots) (m .slots) k,
-        tail-after-renumber f (m .tail) k,
-        drop-oldest-renumber f (m .buffer),
-      )
-
-  drain-renumber : (m : Machine) → drain (renumber m) ≡ renumberDone (drain m)
-  drain-renumber m = cond-map renumberDone (not (nothingPending m)) (ap (done Moved) (drained-renumber m)) refl
+  -- a thief's move
+  thief-renumber : (i : ℕ) (m : Machine) (d : ThiefMove) → performThief i (renumber m) (renumberThiefMove d) ≡ renumberDone (performThief i m d)
+  thief-renumber i m d = rw (map-set renumberThief (m .thieves) i (record { call = d .call }))
 
   -- a beginning or a client store, unless the worker's call runs
   unless-renumber : (m : Machine) (d : Done) {r : Done} → r ≡ renumberDone d
       → unlessWorkerRuns (renumber m) r ≡ renumberDone (unlessWorkerRuns m d)
-  unless-renumber m d e =
-      rw (worker-blind workerRuns (λ x. refl) (λ x. refl) (m .worker .call))
-      (cond-map renumberDone (workerRuns (m .worker .call)) refl e)
-
-  -- the next step of thief i is c, with this outcome
-  thief-renumber : (o : Outcome) (i : ℕ) (c : ThiefCall) (m : Machine)
-      → done (renumberOutcome f o) (withThief i (renumberSteal c) (renumber m)) ≡ renumberDone (done o (withThief i c m))
-  thief-renumber o i c m = rw (map-set renumberThief (m .thieves) i (record { call = c }))
-
-  -- a thief's call
-  thief-call-renumber : (m : Machine) (i : ℕ) → thiefCall (renumber m) i ≡ renumberSteal (thiefCall m i)
-  thief-call-renumber m i = ap (λ t. t .call) (List·getD-map renumberThief (m .thieves) i idleThief)
+  unless-renumber m d e = choice-renumber renumberDone (worker-blind workerRuns (λ x. refl) (λ x. refl) (m .worker .call)) refl e
 
   -- ── Each step, as its party sees the machine ────────────────────────────────────────────────────────────────────────────────
 
@@ -211,52 +189,39 @@ module _ (f : ℕ → ℕ) where
 
   -- ── With 0 for 0: a slot that holds no task holds 0 ─────────────────────────────────────────────────────────────────────────
   module _ (zero-kept : f 0 ≡ 0) where
-    -- what a thief and what the worker load, from a slot or from none
-    thief-loads-renumber : (m : Machine) (l : Load) → memoryLoads (renumber m) l ≡ f (memoryLoads m l)
-    thief-loads-renumber m NoSlot = sym zero-kept
-    thief-loads-renumber m (SlotOf i) = thief-load-renumber f zero-kept (m .slots) (slotOf (m .sizes .slots) i)
-
-    worker-loads-renumber : (m : Machine) (l : Load) → workerLoads (renumber m) l ≡ f (workerLoads m l)
-    worker-loads-renumber m NoSlot = sym zero-kept
-    worker-loads-renumber m (SlotOf i) = worker-load-renumber f zero-kept (m .sizes .slots) (m .slots) (m .buffer) (slotOf (m .sizes .slots) i)
-
     -- what a party sees, and what its step does to the machine
     worker-step-renumber : (m : Machine) (c : WorkerCall) → stepOfWorker (renumber m) (renumberWorker c) ≡ renumberDone (stepOfWorker m c)
     worker-step-renumber m c =
         let d = workerMove c (workerView m c) in
         let sees : workerView (renumber m) (renumberWorker c) ≡ renumberWorkerView (workerView m c) =
-        rw (worker-blind loads (λ x. refl) (λ x. refl) c, worker-loads-renumber m (loads c), tail-renumber f (m .tail) (m .buffer)) in
-        let does : performWorker (renumber m) (renumberWorkerMove d) ≡ renumberDone (performWorker m d) = ap (λ n. done (renumberOutcome f (d .outcome)) (withWorker (renumberWorker (d .call)) (withLock (d .lock .holder) n))) (store-renumber (d .push) m) in
-        ap (λ v. performWorker (renumber m) (workerMove (renumberWorker c) v)) sees ∙ ap (performWorker (renumber m)) (work-renumber c (workerView m c)) ∙ does
+        rw (worker-blind loads (λ x. refl) (λ x. refl) c, loads-renumber f zero-kept (workerLoads (renumber m)) (workerLoads m) refl refl (worker-load-renumber f zero-kept (m .sizes .slots) (m .slots) (m .buffer)) (loads c), tail-renumber f (m .tail) (m .buffer)) in
+        ap (λ v. performWorker (renumber m) (workerMove (renumberWorker c) v)) sees
+        ∙ ap (performWorker (renumber m)) (work-renumber c (workerView m c))
+        ∙ ap (λ n. done (renumberOutcome f (d .outcome)) (withWorker (renumberWorker (d .call)) (withLock (d .lock .holder) n))) (store-renumber (d .push) m)
 
-    thief-step-renumber : (i : ℕ) (m : Machine) (c : ThiefCall)
-        → stepOfThief i (renumber m) (renumberSteal c) ≡ renumberDone (stepOfThief i m c)
+    thief-step-renumber : (i : ℕ) (m : Machine) (c : ThiefCall) → stepOfThief i (renumber m) (renumberSteal c) ≡ renumberDone (stepOfThief i m c)
     thief-step-renumber i m c =
-        let d = thiefMove c (thiefView m i c) in
         let sees : thiefView (renumber m) i (renumberSteal c) ≡ renumberThiefView (thiefView m i c) =
-        rw (thief-blind thiefLoads (λ x. refl) c, thief-loads-renumber m (thiefLoads c)) in
-        let does : performThief i (renumber m) (renumberThiefMove d) ≡ renumberDone (performThief i m d) =
-        rw (map-set renumberThief (m .thieves) i (record { call = d .call })) in
-        ap (λ v. performThief i (renumber m) (thiefMove (renumberSteal c) v)) sees ∙ ap (performThief i (renumber m)) (steal-renumber c (thiefView m i c)) ∙ does
+        rw (thief-blind thiefLoads (λ x. refl) c, loads-renumber f zero-kept (memoryLoads (renumber m)) (memoryLoads m) refl refl (thief-load-renumber f zero-kept (m .sizes .slots) (m .slots)) (thiefLoads c)) in
+        ap (λ v. performThief i (renumber m) (thiefMove (renumberSteal c) v)) sees
+        ∙ ap (performThief i (renumber m)) (steal-renumber c (thiefView m i c))
+        ∙ thief-renumber i m (thiefMove c (thiefView m i c))
 
     -- each entry
     obey-in-range-renumber : (m : Machine) (e : Entry) → obeyInRange (renumber m) (renumberEntry f e) ≡ renumberDone (obeyInRange m e)
-    obey-in-range-renumber m Drain = drain-renumber m
+    obey-in-range-renumber m Drain =
+        cond-map renumberDone (not (nothingPending m)) (drained-renumber f (λ l t b. done Moved (withMemory l t b (renumber m))) (m .sizes .slots) (m .slots) (m .tail) (m .buffer)) refl
     obey-in-range-renumber m ClientStore = unless-renumber m _ (cond-map renumberDone (hasRoom m) (ap (done Moved) (store-renumber (One TheClient Client) m)) refl)
     obey-in-range-renumber m (BeginPut x) = unless-renumber m (workerGoesOn (PutLoadHead x) m) refl
     obey-in-range-renumber m BeginTake = unless-renumber m _ (cond-map renumberDone (tooEarly (m .spacing) (m .sizes .spacing)) refl refl)
     obey-in-range-renumber m WorkerStep = worker-step-renumber m (m .worker .call)
     obey-in-range-renumber m (BeginSteal i) =
-        rw (thief-call-renumber m i, thief-blind thiefRuns (λ x. refl) (thiefCall m i))
-        (cond-map renumberDone (thiefRuns (thiefCall m i)) refl (thief-renumber Moved i StealLock m))
+        choice-renumber renumberDone (ap thiefRuns (thief-call-renumber m i) ∙ thief-blind thiefRuns (λ x. refl) (thiefCall m i)) refl
+        (thief-renumber i m (record { head = m .head; lock = m .lock; call = StealLock; outcome = Moved }))
     obey-in-range-renumber m (ThiefStep i) = rw (thief-call-renumber m i) (thief-step-renumber i m (thiefCall m i))
 
     obey-renumber : (m : Machine) (e : Entry) → obey (renumber m) (renumberEntry f e) ≡ renumberDone (obey m e)
-    obey-renumber m e =
-        let ranged = in-range-renumber m in
-        let there = entry-blind f (thiefIsThere (m .sizes)) (λ x. refl) e in
-        ap (λ t. cond t (obeyInRange (renumber m) (renumberEntry f e)) (done Wait (renumber m))) (λ i. ranged i && there i)
-        ∙ cond-map renumberDone (inRange m && thiefIsThere (m .sizes) e) (obey-in-range-renumber m e) refl
+    obey-renumber m e = looked-at-renumber f renumberDone (m .sizes) e (in-range-renumber m) (obey-in-range-renumber m e) refl
 
 pub blind-to-numbers : BlindToNumbers ffThe
 blind-to-numbers =

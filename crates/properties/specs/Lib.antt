@@ -7,6 +7,7 @@
 -- how far memory lags at most            Hidden
 -- whose the pending stores are           TakeStores
 pub mod Types
+pub mod CasTypes
 pub mod Renumbering
 pub mod ExactlyOnce
 pub mod Accounts
