@@ -1,5 +1,5 @@
 -- How far memory lags in a run, of any queue: never more than the needed margin, where that is so of lists of entries.
-use mathlib.Core.Path.{ap, subst}
+use mathlib.Core.Path.{refl, ap, subst}
 use mathlib.Core.List.{List}
 use Prim.Native.Nat.{ℕ, _≤_}
 use Rattle.terms.specs.Lists.{IsLargest, largest}
@@ -23,7 +23,7 @@ module _ {M : Type 0} (b : Implementation M Entry) (proved : Proved b) where
       let same = ap (λ t. largest (hiddenOf b (b .fresh t) (scheduleIn file))) (accepted-readable file s n accepted .0) in
       record {
         largest-told = subst (IsLargest numbers) same (largest-is-largest numbers);
-        within-needed = subst (λ k. k ≤ neededMargin (s .buffer) (s .spacing)) same (largest-within numbers (neededMargin (s .buffer) (s .spacing)) (proved .lag s (scheduleIn file) (parts-obeyed b file s n accepted .ranged)));
+        within-needed = subst (λ k. k ≤ neededMargin (s .buffer) (s .spacing)) same (largest-within numbers (neededMargin (s .buffer) (s .spacing)) (proved .lag s (scheduleIn file) (parts-obeyed file accepted refl refl .ranged)));
       }
 
   pub run-within-needed : (file : List ℕ) (room : ℕ) → RunWithinNeeded file (runFileBy b file room)

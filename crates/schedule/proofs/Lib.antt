@@ -7,6 +7,8 @@ pub mod Parts
 pub mod Totals
 pub mod Schedules
 pub mod FfThe
+pub mod FfCl
 pub mod Demand3
 pub mod Hidden
+pub mod Queues
 pub mod Promises

@@ -14,10 +14,9 @@ use Rattle.schedule.specs.Entries.{entryAt}
 use Rattle.schedule.specs.Format.{entriesIn, kindsIn, operandsIn, sizesIn, wordsIn}
 use Rattle.schedule.specs.Parts.{EntriesAsRead, EntryOfFile, PartsOfAccepted, ReadByParts, RunByParts}
 use Rattle.schedule.specs.Reader.{holdsKinds, kindPart, kindStart, operandPart, operandStart, readFile, readingOf}
-use Rattle.schedule.specs.Run.{outcomesFromBy, outcomesInBy, summaryFromBy, traceIf, tracePut}
-use Rattle.schedule.specs.Trace.{traceFits, traceOf}
+use Rattle.schedule.specs.Run.{tracePut}
 use Rattle.schedule.proofs.Laws.Reader.{Readable, accepted-readable, kinds-cut, kinds-taken, length-operands-cut, operands-cut, operands-drop, parts-checked, readable-accepted, sizes-decide}
-use Rattle.schedule.proofs.Laws.Run.{outcomes-counted, parts-obeyed, run-with-room, trace-fits, trace-put}
+use Rattle.schedule.proofs.Laws.Run.{parts-obeyed, parts-outcomes, parts-summary, trace-after-run, trace-fits}
 use Rattle.schedule.proofs.Laws.Entries.{check-allowed, entries-passed, entry-as-read, entryAt-both}
 use Rattle.schedule.proofs.Laws.Format.{length-kindsIn, length-operandsIn}
 
@@ -86,13 +85,8 @@ read-by-parts file right =
 
 pub run-by-parts : {M : Type 0} (b : Implementation M Entry) → RunByParts b
 run-by-parts b file s n accepted =
-    let parts = parts-obeyed b file s n accepted in
-    let same = sym ((λ i. outcomesFromBy b s (kindPart file (accepted i)) (wordsIn (operandPart file (accepted i)))) ∙ parts .outcomes) in (
-      same,
-      sym ((λ i. summaryFromBy b s (kindPart file (accepted i)) (wordsIn (operandPart file (accepted i)))) ∙ parts .summary),
-      λ trace enough.
-          let fits = ap (λ k. traceFits k (length trace)) (outcomes-counted b file s n accepted) ∙ trace-fits n (length trace) (parts .few) enough in
-          ap (traceIf (traceOf (outcomesInBy b file)) trace) (run-with-room b file (length trace) s n accepted enough)
-          ∙ sym (trace-put (outcomesInBy b file) trace fits)
-          ∙ ap (λ os. tracePut os trace) same,
+    let parts = parts-obeyed file accepted (ap (kindPart file) accepted) (ap (operandPart file) accepted) in (
+      sym (parts-outcomes b parts),
+      sym (parts-summary b parts),
+      λ trace enough. trace-after-run b file trace accepted (trace-fits n (length trace) (parts .few) enough) ∙ ap (λ os. tracePut os trace) (sym (parts-outcomes b parts)),
     )

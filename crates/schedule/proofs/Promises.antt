@@ -1,40 +1,32 @@
--- What `run` promises, of the answer and the buffer that it hands back: by what they are equal to, all the rest. It is so of any queue of which what it leans on is proved.
-use mathlib.Core.Path.{_≡_, subst, sym, _∙_}
+-- What `run_on` promises, of the answer and the buffer that it hands back: by what they are equal to, all the rest.
+use mathlib.Core.Path.{_≡_, refl, subst, sym, _∙_}
 use mathlib.Core.Bool.{true}
 use mathlib.Core.List.{List}
 use Prim.Native.Nat.{ℕ}
 use lib.ListN.{length}
-use Rattle.claim.specs.Implementation.{Implementation}
 use Rattle.terms.specs.Refusal.{Refuses}
-use Rattle.schedule.specs.Types.{Entry, Running}
-use Rattle.schedule.specs.Demand3.{RunLinearizesBy, TraceLinearizes}
+use Rattle.schedule.specs.Types.{Queue, Refusal, Running}
+use Rattle.schedule.specs.declared.runner.Running.the-variants as running
+use Rattle.schedule.specs.Demand3.{RunLinearizesOn}
 use Rattle.schedule.specs.Faults.{refusalInRunning, runHas}
-use Rattle.schedule.specs.Format.{allBelow, entriesIn, sizesIn}
+use Rattle.schedule.specs.Format.{allBelow}
 use Rattle.schedule.specs.Hidden.{RunWithinNeeded}
-use Rattle.schedule.specs.Run.{runFileBy, scheduleIn, traceAfterBy}
-use Rattle.schedule.proofs.Demand3.{run-linearizes}
-use Rattle.schedule.proofs.Faults.{runner-refuses-faults}
-use Rattle.schedule.proofs.Hidden.{run-within-needed}
-use Rattle.schedule.proofs.Laws.Proved.{Proved}
+use Rattle.schedule.specs.Run.{runFileOn, traceAfterOn}
+use Rattle.schedule.proofs.Queues.{linearizes, refuses-faults, untouched, within-needed}
 
-module _ {M : Type 0} (b : Implementation M Entry) (proved : Proved b) (file trace : List ℕ) (bytes : allBelow 256 file ≡ true) (answer : Running) (after : List ℕ) where
-  abbrev Promised : Type 0
-  Promised =
-      (answer ≡ runFileBy b file (length trace))
-      × ((after ≡ traceAfterBy b file trace)
-      × (RunLinearizesBy b file after answer × (Refuses (runHas file (length trace)) (refusalInRunning answer) × RunWithinNeeded file answer)))
+abbrev Promised : Queue → List ℕ → List ℕ → Running → List ℕ → Type 0
+Promised q file trace answer after =
+    (answer ≡ runFileOn q file (length trace))
+    × ((after ≡ traceAfterOn q file trace)
+    × (RunLinearizesOn q file after answer × (Refuses (runHas file (length trace)) (refusalInRunning answer) × RunWithinNeeded file answer)))
 
-  pub run-promises : answer ≡ runFileBy b file (length trace) → after ≡ traceAfterBy b file trace → Promised
-  run-promises told held = (
-    told,
-    (
-      held,
-      (
-        λ t ran enough. subst (TraceLinearizes b (sizesIn file) (scheduleIn file) (entriesIn file)) (sym held) (run-linearizes b proved file trace bytes t (sym told ∙ ran) enough),
-        (
-          subst (λ r. Refuses (runHas file (length trace)) (refusalInRunning r)) (sym told) (runner-refuses-faults b file (length trace)),
-          λ t ran. run-within-needed b proved file (length trace) t (sym told ∙ ran),
-        ),
-      ),
-    ),
-  )
+module _ (q : Queue) (file trace : List ℕ) (bytes : allBelow 256 file ≡ true) {answer : Running} where
+  pub run-promises : {after : List ℕ} → answer ≡ runFileOn q file (length trace) → after ≡ traceAfterOn q file trace → Promised q file trace answer after
+  run-promises told held =
+      subst (λ t. Promised q file trace answer t) (sym held)
+      (subst (λ r. Promised q file trace r (traceAfterOn q file trace)) (sym told)
+      (refl, (refl, (linearizes q file trace bytes, (refuses-faults q file (length trace), within-needed q file (length trace))))))
+
+  -- of a refusal, with the buffer as it was
+  pub refusal-promises : {r : Refusal} → runFileOn q file (length trace) ≡ running.Refused r → answer ≡ running.Refused r → Promised q file trace answer trace
+  refusal-promises refused told = run-promises (told ∙ sym refused) (sym (untouched q file trace refused))

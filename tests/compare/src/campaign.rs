@@ -2,6 +2,7 @@
 
 use crate::checks::{Case, Verdict};
 use crate::damage::damaged;
+use crate::queue::Queue;
 use crate::random::Random;
 use crate::schedule::MOST_ENTRIES;
 use crate::tally::{Count, Tally};
@@ -28,7 +29,7 @@ pub fn case(seed: u64, number: u64, tally: &mut Tally) -> Verdict {
 pub fn file(file: &[u8], tally: &mut Tally) -> Verdict {
     let pattern = file.iter().copied().map(u64::from).sum();
     match Case::new(file, pattern).examine(tally)? {
-        Ok(ran) => plain::examine(file, &ran, tally),
+        Ok(runs) => plain::examine(file, &runs, tally),
         Err(_) => Ok(()),
     }
 }
@@ -49,11 +50,12 @@ fn length(random: &mut Random) -> usize {
 fn sound(length: usize, random: &mut Random, tally: &mut Tally) -> Verdict {
     tally.count(Count::SoundFiles);
     let file = generate::schedule(length, random).bytes();
-    let ran = Case::new(&file, random.word()).accepted(tally)?;
-    plain::examine(&file, &ran, tally)?;
-    // Every pair costs four runs, so only a share of the files has one.
+    let runs = Case::new(&file, random.word()).accepted(tally)?;
+    plain::examine(&file, &runs, tally)?;
+    // Every pair costs four runs, all of the queue with a lock, so only a share of
+    // the files has one.
     if random.chance(if length > 1500 { 100 } else { 300 }) {
-        likeness::examine(&file, &ran, random, tally)?;
+        likeness::examine(&file, &runs[Queue::Locking], random, tally)?;
     }
     Ok(())
 }

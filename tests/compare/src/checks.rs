@@ -1,9 +1,10 @@
-//! What every file is taken through: read, run, round trip and share sheets, on
-//! both sides.
+//! What every file is taken through: read, a run of each queue, round trip and
+//! share sheets, on both sides.
 
 use std::fmt::Debug;
 
 use crate::lent::Lent;
+use crate::queue::{ByQueue, Queue, QUEUES};
 use crate::schedule::{number_at, trace_room, Draft, ABORT, TASK, WAIT};
 use crate::sheets;
 use crate::sides::{Answer, Side, PROVED, REFERENCE, SIZES_ROOM, TOTALS_ROOM};
@@ -36,6 +37,9 @@ impl Disagreement {
 }
 
 pub type Verdict = Result<(), Disagreement>;
+
+/// The runs of one file.
+pub type Runs = ByQueue<Ran>;
 
 /// A run as both sides gave it.
 pub struct Ran {
@@ -80,14 +84,16 @@ impl<'a> Case<'a> {
         Case { file, pattern }
     }
 
-    /// All comparisons of a single file. Gives the run of an accepted file, the
+    /// All comparisons of a single file. Gives the runs of an accepted file, the
     /// refusal of another.
-    pub fn examine(&self, tally: &mut Tally) -> Result<Result<Ran, Answer>, Disagreement> {
+    pub fn examine(&self, tally: &mut Tally) -> Result<Result<Runs, Answer>, Disagreement> {
         let (read, sizes) = self.read(SIZES_ROOM)?;
         if read.is_refused() {
             tally.refusal(read.number);
             self.hold("a refused read leaves its memory", true, sizes.untouched())?;
-            self.refused_run(read)?;
+            for queue in QUEUES {
+                self.refused_run(queue, read).map_err(on(queue))?;
+            }
             sheets::refused(self, read, tally)?;
             return Ok(Err(read));
         }
@@ -95,15 +101,17 @@ impl<'a> Case<'a> {
         self.hold("sizes as written", &self.file[..SIZES_ROOM], given)?;
         let entries = read.low as usize;
         let draft = Draft::of_accepted(self.file);
-        let ran = self.run(entries, &draft, tally)?;
-        self.short_run(entries, tally)?;
+        let runs = ByQueue::try_new(|queue| {
+            let ran = self.run(queue, entries, &draft, tally);
+            ran.map_err(on(queue))
+        })?;
         self.round_trip(&draft, tally)?;
-        sheets::accepted(self, &draft, &ran, tally)?;
-        Ok(Ok(ran))
+        sheets::accepted(self, &draft, &runs[Queue::Locking], tally)?;
+        Ok(Ok(runs))
     }
 
     /// The same for a file that must be accepted.
-    pub fn accepted(&self, tally: &mut Tally) -> Result<Ran, Disagreement> {
+    pub fn accepted(&self, tally: &mut Tally) -> Result<Runs, Disagreement> {
         let refused = |answer| self.disagreement(format!("a sound file is refused: {answer:?}"));
         self.examine(tally)?.map_err(refused)
     }
@@ -117,34 +125,46 @@ impl<'a> Case<'a> {
     }
 
     /// Runs on both sides with given room for the trace and the totals.
-    pub fn raw_run(&self, rooms: [usize; 2]) -> Result<(Answer, [Lent; 2]), Disagreement> {
+    pub fn raw_run(
+        &self,
+        queue: Queue,
+        rooms: [usize; 2],
+    ) -> Result<(Answer, [Lent; 2]), Disagreement> {
         let rooms = [("trace", rooms[0]), ("totals", rooms[1])];
         self.lend("run", rooms, |side, [trace, totals]| {
-            (side.run)(self.file, trace, totals)
+            (side.run)(queue, self.file, trace, totals)
         })
     }
 
     /// A refused file is refused alike by a run, whatever room there is.
-    fn refused_run(&self, read: Answer) -> Verdict {
+    fn refused_run(&self, queue: Queue, read: Answer) -> Verdict {
         let room = (self.pattern % 67) as usize;
-        let (answer, lent) = self.raw_run([room, room % (TOTALS_ROOM + 1)])?;
+        let (answer, lent) = self.raw_run(queue, [room, room % (TOTALS_ROOM + 1)])?;
         self.hold("a run's refusal", read, answer)?;
         let untouched = lent.iter().all(Lent::untouched);
         self.hold("a refused run leaves its memory", true, untouched)
     }
 
-    fn run(&self, entries: usize, draft: &Draft, tally: &mut Tally) -> Result<Ran, Disagreement> {
+    /// A run, with room for it and with too little.
+    fn run(
+        &self,
+        queue: Queue,
+        entries: usize,
+        draft: &Draft,
+        tally: &mut Tally,
+    ) -> Result<Ran, Disagreement> {
         let needed = trace_room(entries);
         // Half of the cases lend exactly what is needed, the rest some more.
         let spare = (self.pattern % 32).saturating_sub(16) as usize;
-        let (answer, [trace, totals]) = self.raw_run([needed + spare, TOTALS_ROOM])?;
+        let (answer, [trace, totals]) = self.raw_run(queue, [needed + spare, TOTALS_ROOM])?;
         self.hold("an accepted run", Answer::value(0), answer)?;
         self.hold("trace beyond", true, trace.untouched_beyond(needed))?;
         let ran = Ran::of(trace.content(), totals.content(), entries);
         let head = number_at(&trace.content()[..4]);
         self.hold("entries in the trace", entries, head as usize)?;
         self.sound_run(draft, &ran)?;
-        tally.run(draft, &ran);
+        tally.run(queue, draft, &ran);
+        self.short_run(queue, entries, tally)?;
         Ok(ran)
     }
 
@@ -163,8 +183,8 @@ impl<'a> Case<'a> {
     }
 
     /// A run whose trace is lent one byte less than it needs.
-    fn short_run(&self, entries: usize, tally: &mut Tally) -> Verdict {
-        let (answer, lent) = self.raw_run([trace_room(entries) - 1, TOTALS_ROOM])?;
+    fn short_run(&self, queue: Queue, entries: usize, tally: &mut Tally) -> Verdict {
+        let (answer, lent) = self.raw_run(queue, [trace_room(entries) - 1, TOTALS_ROOM])?;
         self.hold("a trace one byte short", NO_ROOM, answer)?;
         tally.refusal(answer.number);
         let untouched = lent.iter().all(Lent::untouched);
@@ -281,4 +301,9 @@ impl<'a> Case<'a> {
             files: vec![self.file.to_vec()],
         }
     }
+}
+
+/// Names the queue that a disagreement is about.
+pub fn on(queue: Queue) -> impl Fn(Disagreement) -> Disagreement {
+    move |found| found.of(queue.name())
 }

@@ -4,6 +4,7 @@
 
 use crate::checks::{Case, Ran, Verdict};
 use crate::faults::{spoil, Fault, FAULTS};
+use crate::queue::Queue;
 use crate::random::Random;
 use crate::schedule::{Draft, BEGIN_PUT, DRAIN, FULL, MOST_ENTRIES, PLACE, WORKER_STEP};
 use crate::sheets::{self, sheet_room, MOST_BLOCKS};
@@ -26,16 +27,17 @@ pub fn examine(length: usize, random: &mut Random, tally: &mut Tally) -> Verdict
     let design = Design::new(length.clamp(1, MOST_ENTRIES), random);
     let file = design.file();
     let case = Case::new(&file, random.word());
-    let ran = case.accepted(tally)?;
-    plain::examine(&file, &ran, tally)?;
-    design.hold_written(&case, &ran, tally)?;
+    let runs = case.accepted(tally)?;
+    plain::examine(&file, &runs, tally)?;
+    let ran = &runs[Queue::Locking];
+    design.hold_written(&case, ran, tally)?;
 
     for fault in FAULTS.into_iter().chain([Fault::Block; BLOCKS]) {
-        design.hold_faults(&[fault], &ran, random, tally)?;
+        design.hold_faults(&[fault], ran, random, tally)?;
     }
     for _ in 0..PAIRS {
         let pair = [random.pick(&FAULTS), random.pick(&FAULTS)];
-        design.hold_faults(&pair, &ran, random, tally)?;
+        design.hold_faults(&pair, ran, random, tally)?;
     }
     Ok(())
 }

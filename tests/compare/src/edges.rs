@@ -1,6 +1,7 @@
 //! Files at the edges of every range, each with the answer it must get.
 
 use crate::checks::{Case, Verdict};
+use crate::queue::Queue;
 use crate::schedule::{
     assemble, Draft, Entry, BEGIN_PUT, BEGIN_STEAL, BEGIN_TAKE, CLIENT_STORE, DRAIN, HEADER,
     MOST_ENTRIES, RANGES, THIEF_STEP, THIEVES, WORKER_STEP,
@@ -35,7 +36,7 @@ impl Edge {
         let case = Case::new(&self.file, 3 * self.file.len() as u64 + 1);
         let held = case.examine(tally).and_then(|given| {
             let read = match given {
-                Ok(ran) => Answer::value(ran.outcomes.len() as u32),
+                Ok(runs) => Answer::value(runs[Queue::Locking].outcomes.len() as u32),
                 Err(refusal) => refusal,
             };
             case.hold("read", self.read, read)

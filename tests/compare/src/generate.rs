@@ -1,10 +1,12 @@
 //! Random sound schedules that mostly make progress.
 //!
 //! Entries are drawn with no thought of what the machine can do. The reference
-//! then runs them, and most of those that got 5, 6 or 7 are swept out: each left
-//! the machine as it was, so the others keep their outcomes. No comparison rests
-//! on that run; an error in it could only make the schedules duller.
+//! then runs them with one of the queues, and most of those that got 5, 6 or 7 are
+//! swept out: each left the machine as it was, so the others keep their outcomes.
+//! No comparison rests on that run; an error in it could only make the schedules
+//! duller. With the other queue they are somewhat duller anyway.
 
+use crate::queue::{Queue, QUEUES};
 use crate::random::Random;
 use crate::schedule::{
     Draft, BEGIN_PUT, BEGIN_STEAL, BEGIN_TAKE, BUFFER, CLIENT_STORE, DRAIN, EARLY, LAST_INDEX,
@@ -35,6 +37,8 @@ pub struct Flavour {
 const TURN: u32 = 10;
 /// A client store where the worker begins something.
 const CLIENT: u32 = 60;
+/// Sizes that bring the parties close together.
+const CLOSE: u32 = 150;
 /// After so many sweeps, what is still missing stays as it is drawn.
 const SWEEPS: usize = 32;
 
@@ -81,21 +85,35 @@ const fn progressing(leans: &'static [Lean]) -> Flavour {
     flavour(leans, 10, 30)
 }
 
-/// A sound schedule of `length` entries.
+/// A sound schedule of `length` entries for either queue.
 pub fn schedule(length: usize, random: &mut Random) -> Draft {
-    let flavour = random.pick(&FLAVOURS);
-    flavoured(sizes(random), &flavour, length, random)
+    let queue = random.pick(&QUEUES);
+    schedule_for(queue, length, random)
 }
 
-/// The same with enough margin.
+/// A sound schedule that makes progress with one queue.
+pub fn schedule_for(queue: Queue, length: usize, random: &mut Random) -> Draft {
+    let flavour = random.pick(&FLAVOURS);
+    flavoured(queue, sizes(random), &flavour, length, random)
+}
+
+/// The same with enough margin, for the queue with a lock.
 pub fn with_enough_margin(length: usize, random: &mut Random) -> Draft {
     let flavour = random.pick(&FLAVOURS);
-    flavoured(enough_sizes(random), &flavour, length, random)
+    let sizes = enough_sizes(random);
+    flavoured(Queue::Locking, sizes, &flavour, length, random)
 }
 
 /// A sound schedule of given sizes and flavour.
-pub fn flavoured(sizes: [u32; 6], flavour: &Flavour, length: usize, random: &mut Random) -> Draft {
+pub fn flavoured(
+    queue: Queue,
+    sizes: [u32; 6],
+    flavour: &Flavour,
+    length: usize,
+    random: &mut Random,
+) -> Draft {
     let mut drawing = Drawing {
+        queue,
         draft: Draft::new(sizes),
         swept: 0,
         flavour,
@@ -116,6 +134,7 @@ pub fn flavoured(sizes: [u32; 6], flavour: &Flavour, length: usize, random: &mut
 }
 
 struct Drawing<'a> {
+    queue: Queue,
     draft: Draft,
     /// Entries that stay, whatever follows.
     swept: usize,
@@ -173,7 +192,7 @@ impl Drawing<'_> {
 
     /// Leaves out most of the new entries that did nothing.
     fn sweep(&mut self) {
-        let outcomes = self.draft.outcomes();
+        let outcomes = self.draft.outcomes(self.queue);
         let mut place = 0;
         self.draft.entries.retain(|_| {
             let share = match outcomes[place] {
@@ -200,6 +219,9 @@ pub fn task(random: &mut Random) -> u32 {
 
 /// Sizes in range.
 pub fn sizes(random: &mut Random) -> [u32; 6] {
+    if random.chance(CLOSE) {
+        return close_sizes(random);
+    }
     let buffer = buffer(random);
     let spacing = spacing(buffer, random);
     let margin = margin(reference::needed_margin(buffer, spacing), random);
@@ -208,6 +230,16 @@ pub fn sizes(random: &mut Random) -> [u32; 6] {
     let thieves = random.pick(&[1, any.min(3), any, 8]);
     let start = start(slots, random);
     [slots, buffer, spacing, margin, thieves, start]
+}
+
+/// Sizes in range with a margin of 1, enough or not: a thief steals one block of
+/// two, so that it and the worker often meet at the last one.
+fn close_sizes(random: &mut Random) -> [u32; 6] {
+    let buffer = random.between(1, 4);
+    let spacing = random.pick(&[0, buffer - 1]);
+    let slots = random.between(2, 6);
+    let start = start(slots, random);
+    [slots, buffer, spacing, 1, random.between(1, 3), start]
 }
 
 /// Sizes in range whose margin is enough, mostly just enough.

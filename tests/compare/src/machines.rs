@@ -6,6 +6,7 @@ use crate::image::{
     SPACING_COUNT, STORES, STORE_HANDS, TAIL, THIEF_CALLS, THIEF_HANDS, TOP, WORKER_CALL,
     WORKER_HANDS,
 };
+use crate::queue::Queue;
 use crate::random::Random;
 use crate::schedule::{Draft, BUFFER, RANGES, SPACING};
 use crate::script::Script;
@@ -16,7 +17,7 @@ use crate::sides::from_file_order;
 pub fn reached(random: &mut Random) -> Image {
     let most = random.pick(&[20, 60, 200]);
     let length = random.place(most + 1);
-    led_to(&generate::schedule(length, random))
+    led_to(&generate::schedule_for(Queue::Locking, length, random))
 }
 
 /// A machine with two takes hidden, a client store between them and places left

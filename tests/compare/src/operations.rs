@@ -9,6 +9,7 @@ use std::process::{Child, ChildStdin, ChildStdout, Command, Stdio};
 
 use crate::arrays::Arrays;
 use crate::image::NUMBERS;
+use crate::queue::Queue;
 use crate::schedule::{number_at, Entry};
 use crate::sides::in_file_order;
 
@@ -91,8 +92,12 @@ impl Operations {
     }
 
     /// The lines that are printed for a file.
-    pub fn lines(&mut self, file: &[u8]) -> io::Result<Vec<u8>> {
-        self.ask(b'l', &[file])
+    pub fn lines(&mut self, queue: Queue, file: &[u8]) -> io::Result<Vec<u8>> {
+        let name = match queue {
+            Queue::Locking => b'l',
+            Queue::Swapping => b's',
+        };
+        self.ask(name, &[file])
     }
 
     fn ask(&mut self, name: u8, parts: &[&[u8]]) -> io::Result<Vec<u8>> {

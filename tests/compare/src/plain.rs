@@ -2,47 +2,53 @@
 //! and exactly one block is given twice with one less.
 
 use reference::needed_margin;
-use reference::plain_queue::{judge, Verdict as Judgement};
+use reference::plain_queue::Verdict as Judgement;
 
-use crate::checks::{Case, Ran, Verdict};
+use crate::checks::{on, Case, Ran, Runs, Verdict};
+use crate::queue::{Queue, QUEUES};
 use crate::random::Random;
 use crate::schedule::{
     Draft, ABORT, BEGIN_TAKE, BUFFER, CLIENT_STORE, FULL, LAST_INDEX, MARGIN, MOVED, SPACING,
     START, TASK, THIEF_STEP, THIEVES,
 };
 use crate::script::Script;
-use crate::tally::{Count, Tally};
+use crate::tally::{Seen, Shown, Tally};
 
-/// Judges a run of an accepted file and holds it where the margin is enough.
-pub fn examine(file: &[u8], ran: &Ran, tally: &mut Tally) -> Verdict {
-    let judgement = judged(file);
+/// Judges the runs of an accepted file and holds them where the margin is enough.
+pub fn examine(file: &[u8], runs: &Runs, tally: &mut Tally) -> Verdict {
     let draft = Draft::of_accepted(file);
-    if draft.has_enough_margin() {
-        count_enough(&draft, ran, tally);
-        return clean(file, &judgement);
-    }
-    tally.count(Count::JudgedShort);
-    if judgement.first_difference.is_some() {
-        tally.count(Count::ShortHarmed);
+    for queue in QUEUES {
+        let judgement = queue.judged(file);
+        let seen = &mut tally.runs[queue];
+        if draft.has_enough_margin() {
+            count_enough(&draft, &runs[queue], seen);
+            clean(file, &judgement).map_err(on(queue))?;
+            continue;
+        }
+        seen.count_seen([
+            (Shown::JudgedShort, true),
+            (Shown::ShortHarmed, judgement.first_difference.is_some()),
+            (Shown::ShortGivenTwice, judgement.given_twice > 0),
+        ]);
     }
     Ok(())
 }
 
 /// What the runs judged with enough margin went through.
-fn count_enough(draft: &Draft, ran: &Ran, tally: &mut Tally) {
+fn count_enough(draft: &Draft, ran: &Ran, seen: &mut Seen) {
     let mut steps = draft.entries.iter().zip(&ran.outcomes);
     let stolen = steps.any(|(entry, outcome)| entry.0 == THIEF_STEP && *outcome == TASK);
-    tally.count_seen([
-        (Count::JudgedEnough, true),
-        (Count::EnoughSeveralThieves, draft.sizes[THIEVES] > 1),
-        (Count::EnoughStolen, stolen),
-        (Count::EnoughFull, ran.outcomes.contains(&FULL)),
+    seen.count_seen([
+        (Shown::JudgedEnough, true),
+        (Shown::EnoughSeveralThieves, draft.sizes[THIEVES] > 1),
+        (Shown::EnoughStolen, stolen),
+        (Shown::EnoughFull, ran.outcomes.contains(&FULL)),
         (
-            Count::EnoughApartByPuts,
+            Shown::EnoughApartByPuts,
             has_takes_apart_by_puts(draft, ran),
         ),
         (
-            Count::EnoughNearLastIndex,
+            Shown::EnoughNearLastIndex,
             draft.sizes[START] > LAST_INDEX - 300,
         ),
     ]);
@@ -63,10 +69,6 @@ fn has_takes_apart_by_puts(draft: &Draft, ran: &Ran) -> bool {
         }
     }
     false
-}
-
-fn judged(file: &[u8]) -> Judgement {
-    judge(file).expect("the file is accepted")
 }
 
 fn clean(file: &[u8], judgement: &Judgement) -> Verdict {
@@ -100,32 +102,55 @@ pub fn short_margins(seed: u64) -> Vec<[u32; 6]> {
 
 /// Harm with this margin, none with the needed one.
 pub fn hold_short(sizes: &[u32; 6], tally: &mut Tally) -> Verdict {
-    let script = taken_unseen(sizes).steal(0, TASK, 1);
+    for queue in QUEUES {
+        hold_harm(queue, sizes, tally).map_err(on(queue))?;
+    }
+    Ok(())
+}
+
+fn hold_harm(queue: Queue, sizes: &[u32; 6], tally: &mut Tally) -> Verdict {
+    let script = match queue {
+        Queue::Locking => taken_unseen(queue, 1, sizes).steal(0, TASK, 1),
+        Queue::Swapping => {
+            let stolen = taken_unseen(queue, 2, sizes).steal(0, TASK, 1);
+            stolen.steal(0, TASK, 2)
+        }
+    };
     script.follow(tally)?;
     let file = script.draft.bytes();
-    let judgement = judged(&file);
+    let judgement = queue.judged(&file);
     let case = Case::new(&file, 0);
     case.hold("blocks given twice", 1, judgement.given_twice)?;
     let differs = judgement.first_difference.is_some();
     case.hold("a difference from the plain queue", true, differs)?;
 
-    let mut script = taken_unseen(sizes).steal(0, ABORT, 0);
-    script.draft.sizes[MARGIN] = needed_margin(sizes[BUFFER], sizes[SPACING]);
+    let needed = needed_margin(sizes[BUFFER], sizes[SPACING]);
+    let mut script = match queue {
+        Queue::Locking => taken_unseen(queue, 1, sizes).steal(0, ABORT, 0),
+        // Where the margin was just one short, the thief may have the one that is
+        // not taken.
+        Queue::Swapping if needed == sizes[MARGIN] + 1 => {
+            let stolen = taken_unseen(queue, 2, sizes).steal(0, TASK, 1);
+            stolen.steal(0, ABORT, 0)
+        }
+        Queue::Swapping => taken_unseen(queue, 2, sizes).steal(0, ABORT, 0),
+    };
+    script.draft.sizes[MARGIN] = needed;
     script.follow(tally)?;
     let file = script.draft.bytes();
-    clean(&file, &judged(&file))
+    clean(&file, &queue.judged(&file))
 }
 
-/// Puts of 1 to margin + 1 in memory, all taken with no store drained, so that
-/// all takes are hidden at last.
-fn taken_unseen(sizes: &[u32; 6]) -> Script {
+/// Puts of 1 to `last` + margin in memory. All from `last` on are taken, `last` at
+/// last, with no store drained, so that all takes are hidden at last.
+fn taken_unseen(queue: Queue, last: u32, sizes: &[u32; 6]) -> Script {
     let (spacing, margin) = (sizes[SPACING], sizes[MARGIN]);
-    let mut script = Script::new(*sizes);
-    for task in 1..=margin + 1 {
+    let mut script = Script::on(queue, *sizes);
+    for task in 1..=last + margin {
         script = script.put(task).drains(2);
     }
-    for task in (2..=margin + 1).rev() {
+    for task in (last + 1..=last + margin).rev() {
         script = script.take(task).client_stores(spacing);
     }
-    script.take(1).hiding(margin + 1)
+    script.take(last).hiding(margin + 1)
 }

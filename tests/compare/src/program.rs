@@ -1,7 +1,7 @@
-//! The program, from its standard input to its standard output.
+//! The programs, from their standard input to their standard output.
 
 use std::io::{self, ErrorKind, Read, Write};
-use std::path::{Path, PathBuf};
+use std::path::PathBuf;
 use std::process::{Command, Stdio};
 use std::thread;
 use std::time::Duration;
@@ -10,14 +10,14 @@ use crate::checks::{Case, Verdict};
 use crate::damage::damaged;
 use crate::edges::drains;
 use crate::generate;
+use crate::queue::{ByQueue, Queue, QUEUES};
 use crate::random::Random;
 use crate::schedule::{HEADER, MOST_ENTRIES};
 
-pub struct Program {
-    path: PathBuf,
-}
+/// Where the program of each queue is.
+pub struct Programs<'a>(pub &'a ByQueue<PathBuf>);
 
-/// How the bytes reach the program's standard input.
+/// How the bytes reach a program's standard input.
 #[derive(Clone, Copy, PartialEq)]
 pub enum Feed {
     AtOnce,
@@ -25,15 +25,11 @@ pub enum Feed {
     InPieces,
 }
 
-impl Program {
-    pub fn new(path: &Path) -> Self {
-        let path = path.to_path_buf();
-        Program { path }
-    }
-
-    /// Holds the program to the reference's lines.
+impl Programs<'_> {
+    /// Holds both programs to the reference's lines.
     pub fn compare(&self, file: &[u8], feed: Feed) -> Verdict {
-        self.hold(file, feed, &reference::lines(file))
+        let mut queues = QUEUES.into_iter();
+        queues.try_for_each(|queue| self.hold(queue, file, feed, &queue.lines(file)))
     }
 
     pub fn compare_both(&self, file: &[u8]) -> Verdict {
@@ -41,17 +37,17 @@ impl Program {
         self.compare(file, Feed::InPieces)
     }
 
-    /// Holds the program to given lines.
-    pub fn hold(&self, file: &[u8], feed: Feed, expected: &str) -> Verdict {
+    /// Holds a program to given lines.
+    pub fn hold(&self, queue: Queue, file: &[u8], feed: Feed, expected: &str) -> Verdict {
         let case = Case::new(file, 0);
-        let printed = self.printed(file, feed).map_err(|error| {
-            case.disagreement(format!("program {}: {error}", self.path.display()))
-        })?;
-        case.hold_lines("program", expected, &printed)
+        let what = format!("program {}", self.0[queue].display());
+        let printed = self.printed(queue, file, feed);
+        let printed = printed.map_err(|error| case.disagreement(format!("{what}: {error}")))?;
+        case.hold_lines(&what, expected, &printed)
     }
 
-    fn printed(&self, file: &[u8], feed: Feed) -> io::Result<Vec<u8>> {
-        let mut child = Command::new(&self.path)
+    fn printed(&self, queue: Queue, file: &[u8], feed: Feed) -> io::Result<Vec<u8>> {
+        let mut child = Command::new(&self.0[queue])
             .stdin(Stdio::piped())
             .stdout(Stdio::piped())
             .stderr(Stdio::null())
@@ -122,7 +118,7 @@ pub fn overlong() -> Vec<Vec<u8>> {
     files
 }
 
-/// Random files for the program, every other one damaged.
+/// Random files for the programs, every other one damaged.
 pub fn random_file(seed: u64, number: u64) -> Vec<u8> {
     let mut random = Random::of_case(!seed, number);
     let most = random.pick(&[10, 100, 1000, MOST_ENTRIES]);

@@ -1,8 +1,12 @@
 //! The rehearsals: M1 to M9, the paper's example, and stories that a planner
 //! meets, each told step by step with what every step must answer. All but M1
-//! are files of `examples/` too, and so is the share sheet of one.
+//! are files of `examples/` too, and so is the share sheet of one. Here stand those
+//! of the queue with a lock.
+
+mod swapping;
 
 use crate::checks::{Case, Verdict};
+use crate::queue::Queue;
 use crate::schedule::{
     ABORT, BEGIN_PUT, BEGIN_STEAL, BEGIN_TAKE, EARLY, END, FULL, LAST_INDEX, STORED, TASK,
     THIEF_STEP, WAIT,
@@ -49,8 +53,10 @@ impl Rehearsal {
     }
 }
 
-/// What the program prints for the example.
-pub const EXAMPLE_LINES: &str = "\
+/// What a program prints for the example, which is the same for each queue but for
+/// what stands at the end.
+pub fn example_lines(queue: Queue) -> String {
+    let lines = "\
 4 1 0 1 1 0 enough
 0 0 0
 1 0 0
@@ -58,8 +64,12 @@ pub const EXAMPLE_LINES: &str = "\
 3 7 0
 4 0 0
 5 16 0
-given 0 aborts 0 waits 1 hidden 0
-";
+given 0 aborts 0 waits 1";
+    match queue {
+        Queue::Locking => format!("{lines} hidden 0\n"),
+        Queue::Swapping => format!("{lines}\n"),
+    }
+}
 
 /// M1: buffer, spacing and the needed margin.
 const MARGINS: [(u32, u32, u32); 3] = [(33, 1, 17), (32, 0, 32), (64, 63, 1)];
@@ -102,7 +112,8 @@ pub fn all() -> Vec<Rehearsal> {
         script: design(),
         shares: Some(&SHARES),
     };
-    told.map(named).into_iter().chain([design]).collect()
+    let told = told.into_iter().chain(swapping::told());
+    told.map(named).chain([design]).collect()
 }
 
 /// M1, then every needed margin in range.

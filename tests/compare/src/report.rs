@@ -5,7 +5,11 @@ use std::fs;
 use std::path::PathBuf;
 
 use crate::checks::Disagreement;
-use crate::tally::{Count, Tally, HANDED_ON, HIDDEN, MACHINES, OUTCOMES, REFUSALS, SHEETS};
+use crate::queue::{Queue, QUEUES};
+use crate::tally::{
+    Count, Seen, Shown, Tally, HANDED_ON, HIDDEN, JUDGED, MACHINES, OUTCOMES, REFUSALS, SHEETS,
+    SWAPS,
+};
 
 /// Files up to this length are printed whole.
 const PRINTED: usize = 512;
@@ -30,18 +34,8 @@ const PAIRS: [(&str, Count); 3] = [
     ("one refused", Count::AlikeRefused),
 ];
 
-const JUDGED: [(&str, Count); 8] = [
-    ("margin enough, none differs", Count::JudgedEnough),
-    ("  more than one thief", Count::EnoughSeveralThieves),
-    ("  a thief got a task", Count::EnoughStolen),
-    ("  a put found the queue full", Count::EnoughFull),
-    ("  puts alone kept takes apart", Count::EnoughApartByPuts),
-    ("  start near the last index", Count::EnoughNearLastIndex),
-    ("margin short", Count::JudgedShort),
-    ("  of these the plain queue differs", Count::ShortHarmed),
-];
-
-pub fn print_table(parts: &[Part], steps: &Tally, random: &Tally) {
+/// Single steps are left out where none was made.
+pub fn print_table(parts: &[Part], steps: Option<&Tally>, random: &Tally) {
     println!("compared{:>50}{:>12}", "cases", "seconds");
     for part in parts {
         println!(
@@ -49,43 +43,65 @@ pub fn print_table(parts: &[Part], steps: &Tally, random: &Tally) {
             part.name, part.cases, part.seconds
         );
     }
-    println!("single steps");
-    rows(&MACHINES, steps);
-    rows(&HANDED_ON, steps);
-    outcomes(steps);
+    if let Some(steps) = steps {
+        println!("single steps");
+        rows(&MACHINES, steps);
+        rows(&HANDED_ON, steps);
+        outcomes(steps, &[Queue::Locking]);
+    }
     println!("random cases, by kind");
     rows(&KINDS, random);
-    println!("outcomes in random cases");
-    outcomes(random);
     println!("refusals in random cases");
     for (number, name) in REFUSALS {
-        row(&format!("{number:2} {name}"), random.refusal_seen(number));
+        let seen = random.refusal_seen(number);
+        row(&format!("{number:2} {name}"), &[seen]);
     }
-    println!("random runs, by the takes hidden at most");
-    rows(&HIDDEN, random);
     println!("pairs of files, in random cases");
     rows(&PAIRS, random);
-    println!("random runs beside the plain queue");
-    rows(&JUDGED, random);
     println!("share sheets, in random cases");
     rows(&SHEETS, random);
+    let [locking, swapping] = QUEUES.map(Queue::name);
+    println!("{:<46}{locking:>12}{swapping:>12}", "random runs, by queue");
+    outcomes(random, &QUEUES);
+    run_rows(&HIDDEN, random, &QUEUES);
+    println!("the plain queue beside them");
+    run_rows(&JUDGED, random, &QUEUES);
+    println!("calls of {swapping}");
+    run_rows(&SWAPS, random, &[Queue::Swapping]);
 }
 
-fn outcomes(seen: &Tally) {
+fn outcomes(seen: &Tally, queues: &[Queue]) {
     for (outcome, name) in OUTCOMES {
-        row(&format!("{outcome:2} {name}"), seen.outcome_seen(outcome));
+        let name = format!("{outcome:2} {name}");
+        run_row(&name, seen, queues, |runs| runs.outcome_seen(outcome));
     }
-    row("entries run", seen.entries_run());
+    run_row("entries run", seen, queues, Seen::entries_run);
 }
 
-fn rows(rows: &[(&str, Count)], random: &Tally) {
+fn run_rows(rows: &[(&str, Shown)], seen: &Tally, queues: &[Queue]) {
+    for &(name, what) in rows {
+        run_row(name, seen, queues, |runs| runs.of(what));
+    }
+}
+
+/// A row with a column for each queue.
+fn run_row(name: &str, seen: &Tally, queues: &[Queue], count: impl Fn(&Seen) -> u64) {
+    let counts = queues.iter().map(|&queue| count(&seen.runs[queue]));
+    row(name, &counts.collect::<Vec<_>>());
+}
+
+fn rows(rows: &[(&str, Count)], seen: &Tally) {
     for &(name, count) in rows {
-        row(name, random.of(count));
+        row(name, &[seen.of(count)]);
     }
 }
 
-fn row(name: &str, count: u64) {
-    println!("  {name:<44}{count:>12}");
+fn row(name: &str, counts: &[u64]) {
+    print!("  {name:<44}");
+    for count in counts {
+        print!("{count:>12}");
+    }
+    println!();
 }
 
 /// Prints a disagreement with the files and the way to it.

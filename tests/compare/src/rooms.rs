@@ -1,8 +1,9 @@
 //! Lent memory that is too short, exact or longer than needed.
 
-use crate::checks::{Case, Verdict, NO_ROOM};
+use crate::checks::{on, Case, Verdict, NO_ROOM};
 use crate::edges::{drains, SHORT};
 use crate::lent::Lent;
+use crate::queue::{Queue, QUEUES};
 use crate::schedule::{trace_room, MOST_ENTRIES};
 use crate::sides::{Answer, SIZES_ROOM, TOTALS_ROOM};
 use crate::tally::Tally;
@@ -67,12 +68,18 @@ impl Rooms {
         let fits = self.sizes >= SIZES_ROOM;
         case.hold("read", self.expected(fits, self.read), answer)?;
         hold_left(&case, answer, [(&sizes, SIZES_ROOM)])?;
+        for queue in QUEUES {
+            self.hold_run(queue, &case).map_err(on(queue))?;
+        }
+        Ok(())
+    }
 
+    fn hold_run(&self, queue: Queue, case: &Case) -> Verdict {
         let needed = trace_room(self.read.low as usize);
-        let (answer, [trace, totals]) = case.raw_run([self.trace, self.totals])?;
+        let (answer, [trace, totals]) = case.raw_run(queue, [self.trace, self.totals])?;
         let fits = self.trace >= needed && self.totals >= TOTALS_ROOM;
         case.hold("run", self.expected(fits, Answer::value(0)), answer)?;
-        hold_left(&case, answer, [(&trace, needed), (&totals, TOTALS_ROOM)])
+        hold_left(case, answer, [(&trace, needed), (&totals, TOTALS_ROOM)])
     }
 
     /// Too little room is refused after every fault of the file.

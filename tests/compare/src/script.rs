@@ -1,6 +1,7 @@
 //! A schedule beside the trace that it must give.
 
 use crate::checks::{Case, Verdict};
+use crate::queue::Queue;
 use crate::schedule::{
     Draft, BEGIN_PUT, BEGIN_STEAL, BEGIN_TAKE, CLIENT_STORE, DRAIN, EMPTY, MOVED, STORED, TASK,
     THIEF_STEP, WAIT, WORKER_STEP,
@@ -11,6 +12,8 @@ use crate::tally::Tally;
 #[derive(Clone)]
 pub struct Script {
     pub draft: Draft,
+    /// The one that gives the trace.
+    pub queue: Queue,
     /// Outcome and value of each entry.
     expected: Vec<(u8, u32)>,
     /// The most takes that are hidden after an entry, if it is told.
@@ -20,9 +23,15 @@ pub struct Script {
 }
 
 impl Script {
+    /// For the queue with a lock.
     pub fn new(sizes: [u32; 6]) -> Self {
+        Script::on(Queue::Locking, sizes)
+    }
+
+    pub fn on(queue: Queue, sizes: [u32; 6]) -> Self {
         Script {
             draft: Draft::new(sizes),
+            queue,
             expected: Vec::new(),
             hidden: None,
             refusal: None,
@@ -91,8 +100,8 @@ impl Script {
         self.moves(BEGIN_TAKE, 0).works(2).answers(TASK, task)
     }
 
-    /// A take by the long way of a queue that is empty, with nothing pending
-    /// before it and a drain just where it would wait.
+    /// A take by the long way of a queue with a lock that is empty, with nothing
+    /// pending before it and a drain just where it would wait.
     pub fn take_empty(self) -> Self {
         let begun = self.moves(BEGIN_TAKE, 0).works(2).answers(WAIT, 0);
         let locked = begun.drains(1).works(3);
@@ -101,7 +110,12 @@ impl Script {
 
     /// A whole steal.
     pub fn steal(self, thief: u32, outcome: u8, value: u32) -> Self {
-        let begun = self.moves(BEGIN_STEAL, thief).robs(thief, 5);
+        let moved = match (self.queue, outcome) {
+            (Queue::Locking, _) => 5,
+            (Queue::Swapping, TASK) => 3,
+            (Queue::Swapping, _) => 1,
+        };
+        let begun = self.moves(BEGIN_STEAL, thief).robs(thief, moved);
         begun.gets(THIEF_STEP, thief, outcome, value)
     }
 
@@ -125,11 +139,12 @@ impl Script {
         let case = Case::new(&file, file.len() as u64);
         let given = case.examine(tally)?;
         case.hold("refusal", self.refusal, given.as_ref().err().copied())?;
-        let Ok(ran) = given else { return Ok(()) };
+        let Ok(runs) = given else { return Ok(()) };
+        let ran = &runs[self.queue];
         if let Some(hidden) = self.hidden {
             case.hold("takes hidden", hidden, ran.hidden())?;
         }
-        let given = ran.outcomes.into_iter().zip(ran.values);
+        let given = ran.outcomes.iter().copied().zip(ran.values.iter().copied());
         for (entry, (expected, given)) in self.expected.iter().zip(given).enumerate() {
             case.hold(&format!("outcome of entry {entry}"), *expected, given)?;
         }

@@ -6,10 +6,11 @@ use std::path::{Path, PathBuf};
 use std::sync::Mutex;
 
 use crate::arrays::Arrays;
-use crate::checks::{Case, Disagreement, Verdict};
+use crate::checks::{on, Case, Disagreement, Verdict};
 use crate::edges;
 use crate::operations::{Operations, LONGEST};
 use crate::program::overlong;
+use crate::queue::QUEUES;
 
 pub struct Single {
     path: PathBuf,
@@ -92,8 +93,12 @@ impl Single {
 
     pub fn hold_lines(&self, file: &[u8]) -> Verdict {
         let case = Case::new(file, 0);
-        let printed = self.ask(&case, |program| program.lines(file))?;
-        case.hold_lines("library's lines", &reference::lines(file), &printed)
+        for queue in QUEUES {
+            let printed = self.ask(&case, |program| program.lines(queue, file))?;
+            let held = case.hold_lines("library's lines", &queue.lines(file), &printed);
+            held.map_err(on(queue))?;
+        }
+        Ok(())
     }
 }
 

@@ -1,4 +1,5 @@
-//! Single steps on machines that are handed over, from any totals.
+//! Single steps of the queue with a lock, on machines that are handed over, from
+//! any totals.
 
 use crate::checks::{Case, Disagreement, Verdict};
 use crate::edges::SIZES;
@@ -6,6 +7,7 @@ use crate::hidden::{self, Made};
 use crate::image::{meaning, Image, NUMBERS, THIEF_CALLS, WORKER_CALL};
 use crate::limits::Limit;
 use crate::operations::Stepped;
+use crate::queue::Queue;
 use crate::random::Random;
 use crate::schedule::{
     Entry, ABORT, BEGIN_PUT, BEGIN_STEAL, BEGIN_TAKE, CLIENT_STORE, DRAIN, MOVED, PLACE, TASK,
@@ -111,7 +113,7 @@ pub fn examine(
             entry,
         };
         let made = step.examine(single)?;
-        tally.outcome(made.outcome);
+        tally.runs[Queue::Locking].outcome(made.outcome);
         // To begin a put needs nothing, so in range it never waits.
         in_range &= entry.0 != BEGIN_PUT || made.outcome != WAIT;
         all.push(made);
@@ -201,7 +203,7 @@ pub fn hold_totals(totals: [u32; 3], single: &Single, tally: &mut Tally) -> Verd
             entry,
         };
         let given = step.examine(single)?.outcome;
-        tally.outcome(given);
+        tally.runs[Queue::Locking].outcome(given);
         let held = Case::new(&machine.bytes(), 0).hold("outcome", outcome, given);
         held.map_err(|found| found.of(&step.name()))?;
     }

@@ -30,7 +30,7 @@ use Rattle.schedule.specs.Entries.{checkEntries, entryAt, entryToObey}
 use Rattle.schedule.specs.Format.{allBelow, entriesIn, kindsIn, operandsIn, sizesIn, wordsIn}
 use Rattle.schedule.specs.Reader.{kindPart, operandPart, readFile}
 use Rattle.number.specs.Number.{overwritten}
-use Rattle.schedule.specs.Run.{entriesOf, outcomesFromBy, outcomesInBy, runFileBy, runningBy, scheduleIn, summaryFromBy, summaryInBy, tracePut}
+use Rattle.schedule.specs.Run.{entriesOf, outcomesFromBy, outcomesInBy, runFileBy, runningBy, scheduleIn, summaryFromBy, summaryInBy, traceAfterBy, traceIf, tracePut}
 use Rattle.schedule.specs.Totals.{countedFrom, summaryBy, tallyOf}
 use Rattle.schedule.specs.Trace.{lineIn, lineOf, traceFits, traceLength, traceOf}
 use Rattle.schedule.proofs.Laws.Bytes.{allBelow-drop}
@@ -219,34 +219,40 @@ line-there b s kinds operands l fit at there =
 -- ── The parts of an accepted file ───────────────────────────────────────────────────────────────────────────────────────────
 
 -- what the sizes and the two parts of an accepted file are, for whoever obeys them
-pub record PartsOf {M : Type 0} (b : Implementation M Entry) (file : List ℕ) (s : Sizes) (kinds operands : List ℕ) (n : ℕ) : Type 0 where
+pub record PartsOf (file : List ℕ) (s : Sizes) (kinds operands : List ℕ) (n : ℕ) : Type 0 where
+  pub sizes : s ≡ sizesIn file
   pub ranged : sizesInRange s ≡ true
   pub few : n ≤ 4096
   pub many : length kinds ≡ n
   pub allowed : checkEntries s kinds (wordsIn operands) ≡ Passed
   pub entries : entriesOf s kinds (wordsIn operands) ≡ scheduleIn file
-  pub outcomes : outcomesFromBy b s kinds (wordsIn operands) ≡ outcomesInBy b file
-  pub summary : summaryFromBy b s kinds (wordsIn operands) ≡ summaryInBy b file
 
-pub parts-obeyed : {M : Type 0} (b : Implementation M Entry) (file : List ℕ) (s : Sizes) (n : ℕ) → readFile file ≡ Accepted s n
-    → PartsOf b file s (kindPart file (Accepted s n)) (operandPart file (Accepted s n)) n
-parts-obeyed b file s n accepted =
+-- such are the parts that are cut out by its reading
+pub parts-obeyed : (file : List ℕ) {s : Sizes} {n : ℕ} {kinds operands : List ℕ} → readFile file ≡ Accepted s n → kinds ≡ kindPart file (Accepted s n) → operands ≡ operandPart file (Accepted s n)
+    → PartsOf file s kinds operands n
+parts-obeyed file {s} {n} {kinds} {operands} accepted as-kinds as-operands =
     let read = accepted-readable file s n accepted in
-    let same = read .0 in
+    let sizes = read .0 in
     let count = read .1 .0 in
     let whole = accepted-long file s n accepted in
-    let kinds = kinds-cut file s n whole in
-    let operands = operands-cut file s n whole in
-    let entries = (λ i. entriesOf s (kinds i) (operands i)) ∙ (λ i. entriesOf (same i) (kindsIn (count i) file) (operandsIn (count i) file)) in
+    let kinds-there : kinds ≡ kindsIn n file = as-kinds ∙ kinds-cut file s n whole in
+    let operands-there : wordsIn operands ≡ operandsIn n file = ap wordsIn as-operands ∙ operands-cut file s n whole in
     record {
-      ranged = ap sizesInRange same ∙ ranges-sizes (sizesIn file) (entriesIn file) (read .1 .1 .ranges);
+      sizes = sizes;
+      ranged = ap sizesInRange sizes ∙ ranges-sizes (sizesIn file) (entriesIn file) (read .1 .1 .ranges);
       few = omega (arith, few-entries (sizesIn file) (entriesIn file) (read .1 .1 .ranges), count);
-      many = length-kinds-cut file s n whole;
-      allowed = (λ i. checkEntries s (kinds i) (operands i)) ∙ (λ i. checkEntries (same i) (kindsIn (count i) file) (operandsIn (count i) file)) ∙ read .1 .1 .each;
-      entries = entries;
-      outcomes = (λ i. outcomesOf b (b .fresh s) (entries i)) ∙ ap (λ t. outcomesOf b (b .fresh t) (scheduleIn file)) same;
-      summary = (λ i. summaryBy b (b .fresh s) (entries i)) ∙ ap (λ t. summaryBy b (b .fresh t) (scheduleIn file)) same;
+      many = ap length as-kinds ∙ length-kinds-cut file s n whole;
+      allowed = (λ i. checkEntries s (kinds-there i) (operands-there i)) ∙ (λ i. checkEntries (sizes i) (kindsIn (count i) file) (operandsIn (count i) file)) ∙ read .1 .1 .each;
+      entries = (λ i. entriesOf s (kinds-there i) (operands-there i)) ∙ (λ i. entriesOf (sizes i) (kindsIn (count i) file) (operandsIn (count i) file));
     }
+
+-- so their outcomes, and what is told of them, are those of the file
+module _ {M : Type 0} (b : Implementation M Entry) {file : List ℕ} {s : Sizes} {kinds operands : List ℕ} {n : ℕ} (parts : PartsOf file s kinds operands n) where
+  pub parts-outcomes : outcomesFromBy b s kinds (wordsIn operands) ≡ outcomesInBy b file
+  parts-outcomes = λ i. outcomesOf b (b .fresh (parts .sizes i)) (parts .entries i)
+
+  pub parts-summary : summaryFromBy b s kinds (wordsIn operands) ≡ summaryInBy b file
+  parts-summary = λ i. summaryBy b (b .fresh (parts .sizes i)) (parts .entries i)
 
 -- ── What decides a run ──────────────────────────────────────────────────────────────────────────────────────────────────────
 
@@ -310,7 +316,15 @@ longest-fits n few = trace-fits n (length (replicate {A = ℕ} 20484 0)) few (rw
 pub trace-put : (os : List Outcome) (buffer : List ℕ) → traceFits (length os) (length buffer) ≡ true → tracePut os buffer ≡ overwritten 0 (traceOf os) buffer
 trace-put os buffer fits = by-test _ _ fits
 
--- .. as that of two arrays, of at most 4,096 entries, does in the longest trace
+-- .. as that of an accepted file does where there is room for it ..
+pub trace-after-run : {M : Type 0} (b : Implementation M Entry) (file trace : List ℕ) {s : Sizes} {n : ℕ} → readFile file ≡ Accepted s n → traceFits n (length trace) ≡ true
+    → traceAfterBy b file trace ≡ tracePut (outcomesInBy b file) trace
+trace-after-run b file trace {s} {n} accepted fits =
+    let os = outcomesInBy b file in
+    ap (traceIf (traceOf os) trace) (run-with-room b file (length trace) s n accepted (fits-room n (length trace) fits))
+    ∙ sym (trace-put os trace (ap (λ k. traceFits k (length trace)) (outcomes-counted b file s n accepted) ∙ fits))
+
+-- .. and that of two arrays, of at most 4,096 entries, in the longest trace
 pub longest-put : {M : Type 0} (b : Implementation M Entry) (s : Sizes) (kinds operands : List ℕ) → length kinds ≤ 4096
     → tracePut (outcomesFromBy b s kinds operands) (replicate 20484 0) ≡ overwritten 0 (traceOf (outcomesFromBy b s kinds operands)) (replicate 20484 0)
 longest-put b s kinds operands few =

@@ -1,7 +1,7 @@
 //! Entries per second of both implementations, on the same files in the same
 //! process, one run of each in turn; and, where valgrind is there, the
 //! instructions that the proved one takes for an entry, which no other load of
-//! the machine changes.
+//! the machine changes. All of it for each queue.
 
 use std::env;
 use std::hint::black_box;
@@ -11,22 +11,25 @@ use std::time::{Duration, Instant};
 use std::{fs, io};
 
 use comparing::generate::{flavour, flavoured, lean, Flavour};
+use comparing::queue::{Queue, QUEUES};
 use comparing::random::Random;
 use comparing::schedule::{number_at, trace_room};
 use comparing::sides::{Side, PROVED, REFERENCE, TOTALS_ROOM};
 
+/// How time grows with the length is shown once. Both queues are on one machine,
+/// so for the second the ends are enough.
 const LENGTHS: [usize; 5] = [256, 512, 1024, 2048, 4096];
+const END_LENGTHS: [usize; 2] = [256, 4096];
 /// Odd, so that the median is one of the rounds.
 const ROUNDS: usize = 11;
 /// The least time that a side spends in one round.
 const ROUND: Duration = Duration::from_millis(20);
 const WARM_UP: Duration = Duration::from_millis(40);
-/// The length of the files whose instructions are counted, and the function
-/// that is counted with all that it calls: the proved run as C sees it.
+/// The length of the files whose instructions are counted.
 const COUNTED: usize = 4096;
-const COUNTED_FUNCTION: &str = "rehearsal_run";
-/// Has this program run the files of the load that is named after it, once, by
-/// the proved side, and print nothing: what valgrind is given to count.
+/// Has this program run the files of the queue and the load that are named after
+/// it, once, by the proved side, and print nothing: what valgrind is given to
+/// count.
 const ONCE: &str = "--once";
 /// Entries in all files of one length together. A processor learns the turns
 /// of a single short schedule by heart; many different ones cost what they cost.
@@ -63,7 +66,7 @@ const LOADS: [Load; 4] = [
     },
 ];
 
-/// Files of one load and length, measured.
+/// Files of one queue, load and length, measured.
 struct Measured {
     load: &'static str,
     entries: usize,
@@ -78,54 +81,80 @@ struct Measured {
 fn main() {
     let mut words = env::args().skip(1);
     if words.next().as_deref() == Some(ONCE) {
-        let name = words.next().expect("a load's name");
-        let load = LOADS.iter().find(|load| load.name == name);
-        return once(load.expect("a load of this program"));
+        let [queue, load] = [(); 2].map(|()| words.next().expect("a queue and a load"));
+        let queue = QUEUES.into_iter().find(|one| one.name() == queue);
+        let load = LOADS.iter().find(|one| one.name == load);
+        return once(queue.expect("a queue"), load.expect("a load"));
     }
     print_head();
+    for queue in QUEUES {
+        print_queue(queue);
+    }
+    print_instructions();
+}
+
+fn print_queue(queue: Queue) {
+    let lengths: &[usize] = match queue {
+        Queue::Locking => &LENGTHS,
+        Queue::Swapping => &END_LENGTHS,
+    };
+    print_columns(queue);
     let mut all = Vec::new();
     for load in &LOADS {
-        for entries in LENGTHS {
-            let measured = measure(load, entries);
+        for &entries in lengths {
+            let measured = measure(queue, load, entries);
             print_row(&measured);
             all.push(measured);
         }
     }
-    print_growth(&all);
+    if queue == Queue::Locking {
+        print_growth(&all);
+    }
     let ratios = sorted(all.iter().map(|one| median(&one.ratios)));
     println!(
         "median ratio over all loads and lengths: {:.2} (proved time / reference time)",
         median(&ratios)
     );
     println!();
-    print_instructions();
 }
 
 /// By callgrind, from where a run is called to where it returns.
 fn print_instructions() {
     println!("instructions an entry of the proved run, {COUNTED} entries, by callgrind");
+    let [locking, swapping] = QUEUES.map(Queue::name);
+    println!("{:<14}{locking:>8}{swapping:>8}", "");
     for load in &LOADS {
-        match instructions(load) {
-            Ok(counted) => println!("{:<14}{:>8}", load.name, counted / ENTRIES_TOGETHER as u64),
-            Err(why) => return println!("not counted: {why}"),
+        print!("{:<14}", load.name);
+        for queue in QUEUES {
+            match instructions(queue, load) {
+                Ok(counted) => print!("{:>8}", counted / ENTRIES_TOGETHER as u64),
+                Err(why) => return println!("  not counted: {why}"),
+            }
         }
+        println!();
     }
 }
 
-fn instructions(load: &Load) -> io::Result<u64> {
+fn instructions(queue: Queue, load: &Load) -> io::Result<u64> {
     let report = env::temp_dir().join(format!("bench-{}.callgrind", process::id()));
-    let counted = count(load, &report);
+    let counted = count(queue, load, &report);
     let _ = fs::remove_file(&report);
     counted
 }
 
-fn count(load: &Load, report: &Path) -> io::Result<u64> {
+/// The function that is counted with all that it calls is the proved run as C
+/// sees it.
+fn count(queue: Queue, load: &Load, report: &Path) -> io::Result<u64> {
+    let function = match queue {
+        Queue::Locking => "rehearsal_run",
+        Queue::Swapping => "rehearsal_cas_run",
+    };
     let ran = Command::new("valgrind")
         .args(["--quiet", "--tool=callgrind"])
-        .arg(format!("--toggle-collect={COUNTED_FUNCTION}"))
+        .arg(format!("--toggle-collect={function}"))
         .arg(format!("--callgrind-out-file={}", report.display()))
         .args([env::current_exe()?.as_os_str(), ONCE.as_ref()])
-        .arg(load.name)
+        .args([queue.name(), load.name])
         .output()
         .map_err(|error| io::Error::other(format!("valgrind: {error}")))?;
     if !ran.status.success() {
@@ -139,16 +168,16 @@ fn count(load: &Load, report: &Path) -> io::Result<u64> {
     let text = fs::read_to_string(report)?;
     let total = text.lines().find_map(|line| line.strip_prefix("totals: "));
     match total.and_then(|figure| figure.trim().parse().ok()) {
-        None | Some(0) => Err(io::Error::other(format!("no {COUNTED_FUNCTION} was seen"))),
+        None | Some(0) => Err(io::Error::other(format!("no {function} was seen"))),
         Some(counted) => Ok(counted),
     }
 }
 
-fn once(load: &Load) {
+fn once(queue: Queue, load: &Load) {
     let mut trace = vec![0; trace_room(COUNTED)];
     let mut totals = [0; TOTALS_ROOM];
-    for file in files(load, COUNTED) {
-        let answer = (PROVED.run)(&file, &mut trace, &mut totals);
+    for file in files(queue, load, COUNTED) {
+        let answer = (PROVED.run)(queue, &file, &mut trace, &mut totals);
         assert!(!answer.is_refused(), "the load is refused");
     }
 }
@@ -168,9 +197,19 @@ fn print_head() {
         clock_cost()
     );
     println!();
+}
+
+fn print_columns(queue: Queue) {
     println!(
         "{:<13}{:>8}{:>8}{:>11}{:>11}{:>10}{:>10}{:>8}  spread",
-        "load", "entries", "waits", "proved", "reference", "proved", "reference", "ratio"
+        queue.name(),
+        "entries",
+        "waits",
+        "proved",
+        "reference",
+        "proved",
+        "reference",
+        "ratio"
     );
     println!(
         "{:<13}{:>8}{:>8}{:>11}{:>11}{:>10}{:>10}",
@@ -184,10 +223,10 @@ fn clock_cost() -> f64 {
     median(&sorted(readings))
 }
 
-fn measure(load: &Load, entries: usize) -> Measured {
-    let files = files(load, entries);
-    let waits: u32 = files.iter().map(|file| check(file, entries)).sum();
-    let both = |least| [&PROVED, &REFERENCE].map(|side| round(side, &files, entries, least));
+fn measure(queue: Queue, load: &Load, entries: usize) -> Measured {
+    let files = files(queue, load, entries);
+    let waits: u32 = files.iter().map(|file| check(queue, file, entries)).sum();
+    let both = |least| [&PROVED, &REFERENCE].map(|side| round(side, queue, &files, entries, least));
     both(WARM_UP);
     let rounds: Vec<[f64; 2]> = (0..ROUNDS).map(|_| both(ROUND)).collect();
     Measured {
@@ -200,20 +239,21 @@ fn measure(load: &Load, entries: usize) -> Measured {
     }
 }
 
-/// The same files at every run of this program.
-fn files(load: &Load, entries: usize) -> Vec<Vec<u8>> {
+/// The same files at every run of this program, such as make progress with the
+/// queue.
+fn files(queue: Queue, load: &Load, entries: usize) -> Vec<Vec<u8>> {
     let mut random = Random::new(entries as u64);
-    let mut file = || flavoured(load.sizes, &load.flavour, entries, &mut random).bytes();
+    let mut file = || flavoured(queue, load.sizes, &load.flavour, entries, &mut random).bytes();
     let count = ENTRIES_TOGETHER / entries;
     (0..count).map(|_| file()).collect()
 }
 
 /// Both sides must do the same work before it is timed. Gives the waits.
-fn check(file: &[u8], entries: usize) -> u32 {
+fn check(queue: Queue, file: &[u8], entries: usize) -> u32 {
     let run = |side: &Side| {
         let mut trace = vec![0xA5; trace_room(entries)];
         let mut totals = [0xA5; TOTALS_ROOM];
-        let answer = (side.run)(file, &mut trace, &mut totals);
+        let answer = (side.run)(queue, file, &mut trace, &mut totals);
         assert!(!answer.is_refused(), "{} refuses the load", side.name);
         (trace, totals)
     };
@@ -224,7 +264,7 @@ fn check(file: &[u8], entries: usize) -> u32 {
 
 /// Passes over all files until `least` has been spent in runs; nanoseconds an
 /// entry.
-fn round(side: &Side, files: &[Vec<u8>], entries: usize, least: Duration) -> f64 {
+fn round(side: &Side, queue: Queue, files: &[Vec<u8>], entries: usize, least: Duration) -> f64 {
     let mut trace = vec![0; trace_room(entries)];
     let mut totals = [0; TOTALS_ROOM];
     let mut spent = Duration::ZERO;
@@ -234,7 +274,7 @@ fn round(side: &Side, files: &[Vec<u8>], entries: usize, least: Duration) -> f64
             trace.fill(0xA5);
             totals.fill(0xA5);
             let started = Instant::now();
-            let answer = (side.run)(black_box(file), &mut trace, &mut totals);
+            let answer = (side.run)(queue, black_box(file), &mut trace, &mut totals);
             spent += started.elapsed();
             black_box((answer, &trace, &totals));
         }

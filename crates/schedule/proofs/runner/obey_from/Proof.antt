@@ -1,6 +1,6 @@
 -- `obey_from` meets its contract. Its loop keeps that the machine handed back last, totals, largest number and trace buffer are those after the entries before `at`.
-use mathlib.Core.Path.{_≡_, refl, ap, _∙_}
-use Prim.Native.Nat.{_-_, _≤_}
+use mathlib.Core.Path.{refl, ap, _∙_}
+use Prim.Native.Nat.{_-_}
 use native.Mathlib.Omega.{arith}
 use borrow.Author.Needs.{needs}
 use lib.ListN.{length}
@@ -12,15 +12,10 @@ use Rattle.schedule.proofs.runner.obey_from.Tie as tie
 
 abbrev Inv-loop : tie.InvT-loop
 Inv-loop kinds operands trace₀ entries sizes done₀ tally₀ hidden₀ at₀ trace done tally hidden at =
-    Obeyed ffThe (done₀ .machine) (done₀ .machine .sizes) kinds (wordsIn operands) trace₀ trace (done .machine) tally hidden at × (at ≤ length kinds) × (length trace ≡ length trace₀)
+    Obeyed ffThe (done₀ .machine) (done₀ .machine .sizes) kinds (wordsIn operands) trace₀ trace (done .machine) tally hidden at
 
 abbrev μ-loop : tie.MeasureT-loop
 μ-loop kinds operands trace₀ entries sizes done₀ tally₀ hidden₀ at₀ trace done tally hidden at = length kinds - at
-
-loop-holds : tie.Need-loop-holds Inv-loop μ-loop
-loop-holds c =
-    let a = c .before .before .before .before .before .args in
-    (obeyed-none ffThe (a .machine) (a .machine .sizes) (a .kinds .now) (wordsIn (a .operands .now)) (a .trace .now) _ _ refl (c .none .ensures), omega arith, refl)
 
 add-at : tie.Need-add-at Inv-loop μ-loop
 add-at c =
@@ -35,31 +30,15 @@ loop-again c =
     let compare = count .before in
     let obey = compare .before in
     let asked = obey .before in
-    let turn = asked .before .before in
-    let a = turn .before .before .before .before .before .before .args in (
-      obeyed-more ffThe (a .machine) (a .machine .sizes) (a .kinds .now) (wordsIn (a .operands .now)) (a .trace .now)
-          _ _ _ _ (turn .loop .at) (asked .before .loop-test .taken) (turn .loop .inv .2) (turn .loop .inv .0)
-          _ (asked .entry-at .ensures)
-          _ (ap (λ d. d .machine) (obey .obey .ensures))
-          _ (ap (λ d. d .outcome) (obey .obey .ensures))
-          _ (ap (λ d. d .hidden) (obey .obey .ensures))
-          _ (compare .larger .ensures)
-          _ (count .counted .ensures)
-          _ (put .put-outcome .ensures),
-      omega arith,
-      put .put-outcome .kept .0 ∙ turn .loop .inv .2,
-    )
+    let obeyed = obey .obey .ensures in
+    obeyed-more (asked .before .before .loop .inv) (asked .before .loop-test .taken) (asked .entry-at .ensures) (ap (λ d. d .machine) obeyed) (ap (λ d. d .outcome) obeyed) (ap (λ d. d .hidden) obeyed)
+    (compare .larger .ensures) (count .counted .ensures) (put .put-outcome .kept .0) (put .put-outcome .ensures)
 
 same-length : tie.Need-same-length Inv-loop μ-loop
-same-length c = c .before .before .put-count .kept .0 ∙ c .before .before .before .before .before .loop .inv .2
+same-length c = c .before .before .put-count .kept .0 ∙ c .before .before .before .before .before .loop .inv .as-long
 
 returns : tie.Need-returns Inv-loop μ-loop
-returns c =
-    let turn = c .before .before .before .before .before in
-    let a = turn .before .before .before .before .before .before .args in
-    let end : turn .loop .at ≡ length (a .kinds .now) = omega (arith, turn .loop .inv .1, c .before .before .before .before .loop-test .left) in
-    let all = obeyed-all ffThe (a .machine) (a .machine .sizes) (a .kinds .now) (wordsIn (a .operands .now)) (a .trace .now) _ _ _ _ (turn .loop .at) end (turn .loop .inv .2) (turn .loop .inv .0) in
-    (all .0, c .before .before .put-count .ensures ∙ all .1)
+returns c = let put = c .before .before in obeyed-all (put .before .before .before .loop .inv) (omega (arith, put .before .before .loop-test .left)) (put .put-count .ensures)
 
 pub obey-from-spec : {M : Type 1} → statement M
 obey-from-spec =
@@ -68,7 +47,7 @@ obey-from-spec =
     Inv-loop
     μ-loop
     (λ c κs. search needs)
-    loop-holds
+    (λ c. obeyed-none refl (c .none .ensures))
     (λ c κs. search needs)
     (λ c κs. search needs)
     (λ c κs. search needs)

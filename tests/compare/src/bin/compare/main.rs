@@ -1,10 +1,10 @@
-//! Takes rehearsals, edges, random and damaged files through both
-//! implementations, and through the program, and machines, arrays and files
+//! Takes rehearsals, edges, random and damaged files through both queues of both
+//! implementations, and through the programs, and machines, arrays and files
 //! through single functions of both, until something differs.
 //!
 //! Exit status 0: everything agrees and every outcome, refusal, kind of share
-//! sheet and row on hidden takes came up; 1: something differs or never came up;
-//! 2: the command line is wrong.
+//! sheet and row on runs came up; 1: something differs or never came up; 2: the
+//! command line is wrong.
 
 mod options;
 mod parts;
@@ -53,15 +53,20 @@ fn only(options: &Options, case: u64) -> Result<ExitCode, Found> {
 fn everything(options: &Options) -> Result<ExitCode, Found> {
     let started = Instant::now();
     let mut parts = parts::lists(options)?;
-    parts.extend(parts::program(options)?);
-    let (operations, steps) = parts::operations(options)?;
-    parts.extend(operations);
+    // Agreement is worth something only if everything came up.
+    let mut missing = Vec::new();
+    let mut steps = None;
+    if !options.library_only {
+        parts.extend(parts::programs(options)?);
+        let (operations, seen) = parts::operations(options)?;
+        parts.extend(operations);
+        missing.push(("single steps", seen.missing_steps()));
+        steps = Some(seen);
+    }
     let (random, tally) = parts::random(options)?;
     parts.push(random);
-    print_table(&parts, &steps, &tally);
+    print_table(&parts, steps.as_ref(), &tally);
     println!("seconds {:.1}", started.elapsed().as_secs_f64());
-    // Agreement is worth something only if everything came up.
-    let mut missing = vec![("single steps", steps.missing_steps())];
     if options.cases > 0 {
         missing.push((RANDOM, tally.missing()));
     }
@@ -83,8 +88,7 @@ fn report(options: &Options, found: &Found) {
         format!("compare --seed {seed} --only {case}")
     } else {
         // The other parts are short and repeated whole.
-        let (program, operations) = (options.program.display(), options.operations.display());
-        format!("compare --seed {seed} --cases 0 --program {program} --operations {operations}")
+        format!("compare --seed {seed} --cases 0 {}", options.paths())
     };
     let part = format!("{}, case {case}", found.part);
     print_failure(&part, &again, &found.failure.disagreement);

@@ -9,9 +9,10 @@ use comparing::checks::{Disagreement, Verdict};
 use comparing::edges::Edge;
 use comparing::likeness::{all_resized, hold_resized};
 use comparing::plain::{hold_short, short_margins};
-use comparing::program::{overlong, random_file, Feed, Program};
+use comparing::program::{overlong, random_file, Feed, Programs};
+use comparing::queue::{Queue, QUEUES};
 use comparing::random::Random;
-use comparing::rehearsals::{Rehearsal, EXAMPLE_LINES};
+use comparing::rehearsals::{example_lines, Rehearsal};
 use comparing::report::Part;
 use comparing::rooms::Rooms;
 use comparing::sheet_edges::SheetEdge;
@@ -27,7 +28,7 @@ use crate::options::Options;
 
 /// The part that `--only` repeats.
 pub const RANDOM: &str = "random cases";
-/// Random files that the program is given, half of them damaged.
+/// Random files that the programs are given, half of them damaged.
 const PROGRAM_FILES: u64 = 600;
 /// Machines that schedules lead to, and any others.
 const REACHED: u64 = 2000;
@@ -60,6 +61,7 @@ pub fn lists(options: &Options) -> Result<Vec<Part>, Found> {
     let short = short_margins(options.seed);
     let sheets = sheet_edges::all();
     let file = |file: &Vec<u8>, tally: &mut Tally| campaign::file(file, tally);
+    let named = |path: &PathBuf, tally: &mut Tally| campaign::file(&read(path)?, tally);
     Ok(vec![
         each("rehearsals", &told, Rehearsal::hold)?,
         each("rehearsals, bytes changed and cuts", &damaged, file)?,
@@ -69,6 +71,7 @@ pub fn lists(options: &Options) -> Result<Vec<Part>, Found> {
         each("edges of the writer", &writer::edges(), Written::hold)?,
         each("edges of share sheets", &sheets, SheetEdge::hold)?,
         each("margins below the needed one", &short, hold_short)?,
+        each("files named", &options.examples, named)?,
     ])
 }
 
@@ -78,31 +81,29 @@ pub fn random(options: &Options) -> Result<(Part, Tally), Found> {
     part(RANDOM, options.cases, work)
 }
 
-/// The program.
-pub fn program(options: &Options) -> Result<Vec<Part>, Found> {
-    let program = Program::new(&options.program);
+/// The programs, both with every file.
+pub fn programs(options: &Options) -> Result<Vec<Part>, Found> {
+    let programs = Programs(&options.programs);
     let example = rehearsals::example().draft.bytes();
     let told = rehearsals::all();
     let edges: Vec<_> = edges::files().into_iter().map(|edge| edge.file).collect();
     let files = (0..PROGRAM_FILES).map(|number| random_file(options.seed, number));
     let random: Vec<_> = files.collect();
 
-    let own = |lines: &&str, _: &mut Tally| program.hold(&example, Feed::AtOnce, lines);
-    let stored = |one: &Rehearsal, _: &mut Tally| program.compare_both(&stored_rehearsal(one)?);
-    let once = |file: &Vec<u8>, _: &mut Tally| program.compare(file, Feed::AtOnce);
-    let both = |file: &Vec<u8>, _: &mut Tally| program.compare_both(file);
-    let named = |path: &PathBuf, tally: &mut Tally| {
-        let file = read(path)?;
-        campaign::file(&file, tally)?;
-        program.compare(&file, Feed::AtOnce)
+    let own = |queue: &Queue, _: &mut Tally| {
+        programs.hold(*queue, &example, Feed::AtOnce, &example_lines(*queue))
     };
+    let stored = |one: &Rehearsal, _: &mut Tally| programs.compare_both(&stored_rehearsal(one)?);
+    let once = |file: &Vec<u8>, _: &mut Tally| programs.compare(file, Feed::AtOnce);
+    let both = |file: &Vec<u8>, _: &mut Tally| programs.compare_both(file);
+    let named = |path: &PathBuf, _: &mut Tally| programs.compare(&read(path)?, Feed::AtOnce);
     Ok(vec![
-        each("program: the example's lines", &[EXAMPLE_LINES], own)?,
-        each("program: rehearsals, as stored", &told, stored)?,
-        each("program: edges of files", &edges, once)?,
-        each("program: overlong inputs", &overlong(), both)?,
-        each("program: random and damaged files", &random, once)?,
-        each("program: files named", &options.examples, named)?,
+        each("programs: the example's lines", &QUEUES, own)?,
+        each("programs: rehearsals, as stored", &told, stored)?,
+        each("programs: edges of files", &edges, once)?,
+        each("programs: overlong inputs", &overlong(), both)?,
+        each("programs: random and damaged files", &random, once)?,
+        each("programs: files named", &options.examples, named)?,
     ])
 }
 
@@ -152,7 +153,7 @@ fn single_steps(single: &Single, seed: u64) -> Result<(Vec<Part>, Tally), Found>
 fn single_functions(single: &Single, seed: u64) -> Result<Vec<Part>, Found> {
     let edges = edge_files();
     let files = edges.len() as u64 + SINGLE_FILES;
-    // Behind the edges come random files, by numbers that the program's don't have.
+    // Behind the edges come random files, by numbers that the programs' don't have.
     let file = |case: u64| match edges.get(case as usize) {
         Some(edge) => edge.clone(),
         None => random_file(seed, case),
