@@ -8,11 +8,15 @@ use Rattle.claim.specs.Watch.{events, watchFresh}
 use Rattle.stores.specs.Look.{memoryInRange}
 use Rattle.cas.specs.Machine.{inRange}
 use Rattle.cas.specs.Linearizable.{ffCl, limits}
-use Rattle.cas.specs.Rehearsals.{GivenTwiceViolates, everyNumberShown, givenTwice, oneShort, rowHolds, rows}
+use Rattle.cas.specs.Rehearsals.{GivenTwiceViolates, everyNumberShown, givenTwice, limitsAtTheirEdges, oneShort, rowHolds, rows}
 
 pub rows-hold : all rowHolds rows ≡ true
 unfolding inRange memoryInRange
 rows-hold = refl
+
+-- the limits at their edges
+pub limits-hold : all (λ t. t) limitsAtTheirEdges ≡ true
+limits-hold = refl
 
 -- the table shows every number that an outcome can have
 pub every-number-shown : everyNumberShown ≡ true

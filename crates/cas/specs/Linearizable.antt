@@ -1,4 +1,4 @@
--- Demand 3 for the compare-and-swap queue: with enough margin, for every list of entries, every answer that the plain queue is told of is its own, and no task is lost or given twice. Renders the last sentence of request 5 in 02: where each call takes effect, and of which calls
+-- Demand 3 for the compare-and-swap queue: with enough margin, for every list of entries, every call of which the plain queue is told gets its answer, and no task is lost or given twice. Renders the last sentence of request 5 in 02: where each call takes effect, and of which calls
 -- the plain queue is not told. What is claimed of a list is said in the crate `claim` (`Linearizes`), of any queue. It is proved in `proofs/Linearizable/Theorem.antt`.
 use mathlib.Core.Path.{_≡_}
 use mathlib.Core.Bool.{Bool, true, false, not}
@@ -13,12 +13,11 @@ use Rattle.claim.specs.Calls.{Begun, nothing, aPut, aTake, aSteal, Effect, none
 use Rattle.claim.specs.Implementation.{Implementation}
 use Rattle.claim.specs.Watch.{watchFresh, watched}
 use Rattle.claim.specs.Linearizable.{Linearizable}
-use Rattle.stores.specs.Index.{next}
+use Rattle.stores.specs.Index.{eqZ, next}
 use Rattle.stores.specs.Load.{loadedBetween}
 use Rattle.cas.specs.Types.{Entry, Drain, ClientStore, BeginPut, BeginTake, WorkerStep, BeginSteal, ThiefStep, Index, Machine, Outcome, Task, Empty, Abort, Full, Sizes, ThiefCall, StealLoadHead, StealLoadTail, StealLoadSlot, StealSwapHead, WorkerCall, PutLoadHead, PutStoreSlot, PutStoreTail, TakeStoreTail, TakeLoadHead, TakeLoadSlot, TakeTailToHead, TakeTailPastHead, TakeSwapHead, TakeLoadLastSlot}
-use Rattle.cas.specs.Worker.{isHead}
 use Rattle.cas.specs.Machine.{fresh, takesPending, thiefCall, workerLoad, workerTail}
-use Rattle.cas.specs.Entries.{machineAfter, obey, workerView}
+use Rattle.cas.specs.Entries.{machineAfter, obey}
 
 -- ── Where a call takes effect ───────────────────────────────────────────────────────────────────────────────────────────────
 
@@ -29,7 +28,7 @@ workerEffect o m (PutLoadHead x) = onlyWhere (isAnswer o) (eqb (numberOf o) (num
 workerEffect o m (PutStoreSlot x) = none
 workerEffect o m PutStoreTail = decided false
 workerEffect o m TakeStoreTail = none
-workerEffect o m (TakeLoadHead t) = onlyWhere (not (isHead t (workerView m (TakeLoadHead t)))) false
+workerEffect o m (TakeLoadHead t) = onlyWhere (not (eqZ (t .at) (m .head .at))) false
 workerEffect o m (TakeLoadSlot t) = none
 workerEffect o m (TakeTailToHead h) = none
 workerEffect o m (TakeTailPastHead t) = none
@@ -94,7 +93,7 @@ tailBefore tail (TakeTailPastHead t) = next t
 tailBefore tail (TakeSwapHead t) = tail
 tailBefore tail (TakeLoadLastSlot t) = tail
 
--- the numbers of the tasks that stand, at any moment: thieves move head only as they take a task
+-- the numbers of the tasks that stand, at any moment: head moves only by a swap, as a task leaves
 abbrev pub standingNow : Machine → List ℕ
 standingNow m = loadedBetween (workerLoad m) (m .head) (tailBefore (workerTail m) (m .worker .call))
 
@@ -153,7 +152,7 @@ StandsNow =
     → enoughMargin s ≡ true
     → map (λ t. t .number) (queueOf s es .tasks) ≡ standingNow (machineAfter (fresh s) es)
 
--- A thief loads its value before its effect. From that load on, if its swap would succeed now, since head is still the h that it has loaded, what it has loaded is the number of the task that would leave: the oldest that stands.
+-- A thief loads its value before its effect. From that load on, at every moment at which its swap would succeed, what it has loaded is the number of the task that would leave: the oldest that stands.
 abbrev pub LoadedIsTheTask : Type 0
 LoadedIsTheTask =
     (s : Sizes) (es : List Entry)
@@ -164,7 +163,7 @@ LoadedIsTheTask =
     → h ≡ machineAfter (fresh s) es .head
     → map (λ t. t .number) (take 1 (queueOf s es .tasks)) ≡ x ∷ []
 
--- FULL comes only with exactly slots tasks standing: there are never more.
+-- There are never more tasks than slots, so that FULL, which comes only with slots or more, comes with exactly slots.
 abbrev pub NeverMoreThanSlots : Type 0
 NeverMoreThanSlots = (s : Sizes) (es : List Entry) → sizesInRange s ≡ true → enoughMargin s ≡ true → length (queueOf s es .tasks) ≤ s .slots
 

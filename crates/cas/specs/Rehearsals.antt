@@ -1,6 +1,6 @@
 -- What each step of the compare-and-swap queue shows, as one table over the definitions: each answer of each call, the thief that starts over, two thieves that have loaded one head, the take that loses its swap, both ways to put the tail back, what waits and
 -- what does not, the limits, the margin and one less, and machines at the edge of their range. `proofs/Rehearsals.antt` proves one fact: every row holds; and that the run whose margin is one short violates the claim.
-use mathlib.Core.Bool.{Bool}
+use mathlib.Core.Bool.{Bool, true, false, not}
 use mathlib.Core.List.{List, [], _∷_, _++_, map}
 use Prim.Native.Nat.{ℕ}
 use lib.Dec.{eqb, ltb}
@@ -8,14 +8,15 @@ use lib.IntN.{ℤ, pos, negsuc}
 use lib.ListN.{getD, replicate}
 use Rattle.terms.specs.Sizes.{sized}
 use Rattle.terms.specs.Lists.{all, concatMap, occurrences}
-use Rattle.claim.specs.Calls.{worker, thief}
+use Rattle.claim.specs.PlainQueue.{PlainQueue, toldPut, withinLimits}
+use Rattle.claim.specs.Calls.{worker}
 use Rattle.claim.specs.Linearizable.{Linearizable}
-use Rattle.claim.specs.Stories.{Line, Looks, Row, story, handed, hiding, brink, beyond, does, headIs, tailIs, slotIs, countIs, tasksStand, standing, owed, clientStores, drains, entriesIn, filled, holds, numbersIn, putEnds, puts, takes, thiefGets, thiefMoves, workerGets, workerMoves}
+use Rattle.claim.specs.Stories.{Line, Looks, Row, story, handed, hiding, brink, beyond, does, headIs, tailIs, slotIs, countIs, tasksStand, standing, owed, tells, clientStores, drains, entriesIn, filled, holds, numbersIn, putEnds, puts, takes, thiefGets, thiefMoves, workerGets, workerMoves}
 use Rattle.stores.specs.Index.{eqZ}
 use Rattle.stores.specs.StoreBuffer.{emptyBuffer, push, slotStore, tailStore}
 use Rattle.cas.specs.Types.{Drain, ClientStore, BeginPut, BeginTake, WorkerStep, BeginSteal, ThiefStep, Index, Machine, Outcome, Moved, Place, Early, Wait, Stored, Task, Empty, Abort, Full, End, Sizes, StealLoadTail, StealLoadSlot, StealSwapHead, TakeLoadHead, TakeLoadSlot, TakeTailToHead, TakeTailPastHead, TakeSwapHead, TakeLoadLastSlot, TakeStoreTail, PutStoreTail}
-use Rattle.cas.specs.Machine.{fresh, inRange, withBuffer, withHead, withMemory, withThief, withWorker}
-use Rattle.cas.specs.Linearizable.{ffCl}
+use Rattle.cas.specs.Machine.{fresh, inRange, withBuffer, withHead, withMemory, withSpacing, withThief, withWorker}
+use Rattle.cas.specs.Linearizable.{ffCl, limits}
 
 abbrev pub looks : Looks Machine
 looks =
@@ -73,7 +74,7 @@ oneShort = sized 4 2 0 1 2 0
 abbrev pub putsFill : List Line
 putsFill = puts 7 ++ drains 2 ++ puts 8 ++ drains 2 ++ tasksStand 2 ∷ standing (7 ∷ 8 ∷ []) ∷ putEnds 9 Full
 
--- END at the greatest tail, whatever is free; a steal raises head and makes no room there
+-- END at the greatest tail, whatever is free: a take that its swap has won raises head, and gives no index back
 abbrev pub putsEnd : List Line
 putsEnd = puts 7 ++ drains 2 ++ putEnds 8 End ++ takesLast 7 ++ tailIs (pos 2147483647) ∷ headIs (pos 2147483647) ∷ putEnds 8 End
 
@@ -85,7 +86,7 @@ takesAbove = filled 2 ++ takeLooks ++ owed worker (Task 2) ∷ standing (1 ∷ [
 abbrev pub takesFromNone : List Line
 takesFromNone = takeLooks ++ owed worker Empty ∷ drains 1 ++ tailIs (negsuc 0) ∷ workerGets Empty ++ drains 1 ++ tailIs (pos 0) ∷ headIs (pos 0) ∷ []
 
--- t = h: the tail goes past h, and the swap waits for both stores; won, head is past the task and the task is loaded next. The sum stays, so that the tail is where it was.
+-- t = h: the tail goes past h, and the swap waits for both stores; won, head is past the task and the task is loaded next. The tail is where it was, and so is the sum.
 abbrev pub takesTheLast : List Line
 takesTheLast =
     filled 1
@@ -143,6 +144,14 @@ stealsOldest = filled 3 ++ begins 0 ++ thiefMoves 2 ++ headIs (pos 0) ∷ thiefM
 abbrev pub stealsNone : List Line
 stealsNone = stealEnds Empty ++ puts 1 ++ tasksStand 1 ∷ stealEnds Empty ++ drains 2 ++ stealEnds Abort
 
+-- a tail below head, which a take has lowered, shows no task either
+abbrev pub stealsBelowHead : List Line
+stealsBelowHead = takeLooks ++ drains 1 ++ tailIs (negsuc 0) ∷ stealEnds Empty
+
+-- of an empty steal the plain queue is not told, and of ABORT it is
+abbrev pub stealsTold : List Line
+stealsTold = begins 0 ++ thiefMoves 1 ++ tells (ThiefStep 0) 0 ∷ thiefGets Empty ++ filled 2 ++ begins 0 ++ thiefMoves 1 ++ tells (ThiefStep 0) 1 ∷ thiefGets Abort
+
 -- T − margin ≤ h is ABORT: two tasks with a margin of 2, where three are enough
 abbrev pub stealsAbort : List Line
 stealsAbort = filled 2 ++ stealEnds Abort ++ tasksStand 2 ∷ puts 3 ++ stealEnds Abort ++ drains 2 ++ steals 1
@@ -186,7 +195,18 @@ startsOverToNone = filled 3 ++ begins 0 ++ thiefMoves 3 ++ takes 3 ++ drains 1 +
 abbrev pub countsStores : List Line
 countsStores = takesNothing ++ countIs 0 ∷ does BeginTake Early ∷ clientStores 1 ++ countIs 1 ∷ drains 3 ++ takeLooks ++ workerGets Empty ++ countIs 0 ∷ puts 1 ++ countIs 2 ∷ []
 
--- 5 before 6 before 7; no step of a thief's waits
+-- 5 before 6, and 5 before 7
+abbrev pub placeBeforeEarly : List Line
+placeBeforeEarly = does BeginTake Moved ∷ does BeginTake Place ∷ []
+
+abbrev pub placeBeforeWait : List Line
+placeBeforeWait = takeLooks ++ does ClientStore Place ∷ []
+
+-- the count begins anew as a take begins, before its store
+abbrev pub countsFromTheBeginning : List Line
+countsFromTheBeginning = takesNothing ++ clientStores 1 ++ countIs 1 ∷ does BeginTake Moved ∷ countIs 0 ∷ []
+
+-- 5 for a step with no call and a beginning with one, and 7 for a drain of nothing and a thief that is not there
 abbrev pub refused : List Line
 refused =
     does WorkerStep Place
@@ -203,13 +223,13 @@ refused =
     ∷ does (ThiefStep 2) Wait
     ∷ []
 
--- a store waits for room; a load does not
+-- a store waits for room
 abbrev pub waits : List Line
-waits = does (BeginPut 5) Moved ∷ workerMoves 2 ++ workerGets Wait ++ drains 1 ++ workerGets Stored ++ does ClientStore Wait ∷ drains 1 ++ clientStores 1 ++ []
+waits = does (BeginPut 5) Moved ∷ workerMoves 2 ++ workerGets Wait ++ drains 1 ++ workerGets Stored ++ does ClientStore Wait ∷ drains 1 ++ clientStores 1
 
 -- ── The margin ──────────────────────────────────────────────────────────────────────────────────────────────────────────────
 
--- Two takes undrained, so that memory still has the old tail when a thief comes. It may have block 1, which nobody has taken ..
+-- Two takes undrained, so that memory still has the old tail when a thief comes. It may have task 1, which nobody has taken ..
 abbrev pub twoTakesThenSteal : List Line
 twoTakesThenSteal = filled 3 ++ takes 3 ++ takes 2 ++ steals 1
 
@@ -217,7 +237,7 @@ twoTakesThenSteal = filled 3 ++ takes 3 ++ takes 2 ++ steals 1
 abbrev pub marginKept : List Line
 marginKept = twoTakesThenSteal ++ stealEnds Abort ++ headIs (pos 1) ∷ standing [] ∷ []
 
--- with a margin one short it has block 2, which the worker has too
+-- with a margin one short it has task 2, which the worker has too
 abbrev pub givenTwice : List Line
 givenTwice = twoTakesThenSteal ++ steals 2
 
@@ -253,6 +273,24 @@ takeSwaps z = withWorker (TakeSwapHead (index (pos 7))) (between (index z) (inde
 abbrev pub stealSwaps : ℤ → Machine
 stealSwaps z = withBuffer (push (tailStore (index (pos 2))) emptyBuffer) (withThief 0 (StealSwapHead 5 (index (pos 7))) (between (index z) (index (pos 9))))
 
+-- a swap that is going to be lost waits for the pending stores too
+abbrev pub lostSwapWaits : Row Machine
+lostSwapWaits = handed (withBuffer (push (tailStore (index (pos 8))) emptyBuffer) (takeSwaps (pos 9))) (workerGets Wait ++ drains 1 ++ workerGets Empty ++ headIs (pos 9) ∷ [])
+
+-- END is at the greatest tail alone, which 01's test names
+abbrev pub pastTheEnd : Row Machine
+pastTheEnd = handed (between greatest greatest) (does (BeginPut 5) Moved ∷ workerMoves 1)
+
+-- -1 is in range for an index that is stored or swapped, and the greatest for every one
+abbrev pub edgesInRange : List (Row Machine)
+edgesInRange =
+    handed (withWorker (TakeTailToHead (index (negsuc 0))) (between (index (pos 0)) (index (pos 3)))) (workerGets Empty ++ drains 1 ++ tailIs (negsuc 0) ∷ [])
+    ∷ handed (withWorker (TakeTailPastHead (index (negsuc 0))) (between (index (negsuc 0)) (index (pos 3)))) (workerMoves 1 ++ drains 1 ++ tailIs (pos 0) ∷ [])
+    ∷ handed (withThief 0 (StealSwapHead 5 (index (negsuc 0))) (between (index (negsuc 0)) (index (pos 9)))) (thiefGets (Task 5) ++ headIs (pos 0) ∷ [])
+    ∷ handed (withWorker (TakeLoadSlot greatest) (fresh enough)) (workerGets (Task 0))
+    ∷ handed (withThief 0 (StealLoadSlot greatest) (fresh enough)) (thiefMoves 1)
+    ∷ []
+
 -- a thief loads memory's slot, whatever is pending
 abbrev pub loadsMemory : Row Machine
 loadsMemory =
@@ -270,7 +308,9 @@ handedRows =
     ∷ handed (stealSwaps (pos 8)) (thiefMoves 1 ++ headIs (pos 8) ∷ [])
     ∷ handed (stealSwaps (pos 6)) (thiefMoves 1 ++ headIs (pos 6) ∷ [])
     ∷ loadsMemory
-    ∷ []
+    ∷ lostSwapWaits
+    ∷ pastTheEnd
+    ∷ edgesInRange
 
 -- a swap past the greatest index, a slot below 0 that is to be loaded next, and a tail stored out of range
 abbrev pub brinks : List (Row Machine)
@@ -282,24 +322,33 @@ brinks =
     ∷ brink (withThief 0 (StealLoadTail (index (negsuc 0))) (between (index (pos 0)) (index (pos 9)))) (ThiefStep 0) Moved
     ∷ brink (withWorker PutStoreTail (between (index (pos 0)) greatest)) WorkerStep Stored
     ∷ brink (withWorker TakeStoreTail (between (index (pos 0)) (index (negsuc 0)))) WorkerStep Moved
+    ∷ brink (withSpacing (record { count = 4096; begun = true }) (fresh enough)) ClientStore Moved
     ∷ []
 
--- every index that a call holds is looked at
+-- every index that a call holds is looked at, a slot's from 0 ..
+abbrev pub callsHolding : Index → Index → List Machine
+callsHolding i slot =
+    withWorker (TakeLoadHead i) (fresh enough)
+    ∷ withWorker (TakeLoadSlot slot) (fresh enough)
+    ∷ withWorker (TakeTailToHead i) (fresh enough)
+    ∷ withWorker (TakeTailPastHead i) (fresh enough)
+    ∷ withWorker (TakeSwapHead i) (fresh enough)
+    ∷ withWorker (TakeLoadLastSlot slot) (fresh enough)
+    ∷ withThief 7 (StealLoadTail i) (fresh enough)
+    ∷ withThief 7 (StealLoadSlot slot) (fresh enough)
+    ∷ withThief 7 (StealSwapHead 0 i) (fresh enough)
+    ∷ []
+
+-- .. and so are head, tail, the sizes, how many stores are pending and each of them
 abbrev pub outOfRange : List Machine
 outOfRange =
-    withWorker (TakeLoadHead (index (negsuc 1))) (fresh enough)
-    ∷ withWorker (TakeLoadSlot (index (negsuc 0))) (fresh enough)
-    ∷ withWorker (TakeTailToHead (index (negsuc 1))) (fresh enough)
-    ∷ withWorker (TakeTailPastHead (index (negsuc 1))) (fresh enough)
-    ∷ withWorker (TakeSwapHead (index (negsuc 1))) (fresh enough)
-    ∷ withWorker (TakeLoadLastSlot (index (negsuc 0))) (fresh enough)
-    ∷ withThief 7 (StealLoadTail (index (negsuc 1))) (fresh enough)
-    ∷ withThief 7 (StealLoadSlot (index (negsuc 0))) (fresh enough)
-    ∷ withThief 7 (StealSwapHead 0 (index (negsuc 1))) (fresh enough)
-    ∷ withHead (index (negsuc 1)) (fresh enough)
+    withHead (index (negsuc 1)) (fresh enough)
     ∷ between (index (pos 0)) (index (negsuc 1))
     ∷ fresh (sized 1 2 0 2 1 0)
-    ∷ []
+    ∷ withBuffer (record { stores = emptyBuffer .stores; count = 3 }) (fresh enough)
+    ∷ withBuffer (push (slotStore (index (negsuc 0)) 6) emptyBuffer) (fresh enough)
+    ∷ callsHolding (index (negsuc 1)) (index (negsuc 0))
+    ++ callsHolding (index (pos 2147483649)) (index (pos 2147483649))
 
 -- ── How far memory lags ─────────────────────────────────────────────────────────────────────────────────────────────────────
 
@@ -325,11 +374,17 @@ stories =
     ∷ story (sized 4 4 0 4 1 0) takesPendingPut
     ∷ story enough stealsOldest
     ∷ story enough stealsNone
+    ∷ story enough stealsBelowHead
+    ∷ story enough stealsTold
     ∷ story enough stealsAbort
+    ∷ story (sized 4 2 1 0 1 0) (filled 3 ++ steals 1 ++ stealEnds Abort)
     ∷ story enough twoThieves
     ∷ story enough startsOverInVain
     ∷ story enough startsOverToNone
     ∷ story (sized 4 4 1 0 1 0) countsStores
+    ∷ story (sized 4 4 1 0 1 0) countsFromTheBeginning
+    ∷ story (sized 4 4 1 0 1 0) placeBeforeEarly
+    ∷ story (sized 4 1 0 1 1 0) placeBeforeWait
     ∷ story enough refused
     ∷ story (sized 4 1 0 1 1 0) waits
     ∷ story enough marginKept
@@ -338,6 +393,18 @@ stories =
 
 abbrev pub rows : List (Row Machine)
 rows = stories ++ handedRows ++ brinks ++ map beyond outOfRange ++ hiddenRows
+
+-- the limits, at their edges: with four slots a put may be FULL with four tasks standing and not with three, and STORED with three and not with four
+abbrev pub standingTasks : ℕ → PlainQueue
+standingTasks n = record { tasks = replicate n (record { put = 0; number = 0 }); sum = n; stored = n }
+
+abbrev pub limitsAtTheirEdges : List Bool
+limitsAtTheirEdges =
+    withinLimits (limits enough) (standingTasks 4) (toldPut 9 true)
+    ∷ not (withinLimits (limits enough) (standingTasks 3) (toldPut 9 true))
+    ∷ withinLimits (limits enough) (standingTasks 3) (toldPut 9 false)
+    ∷ not (withinLimits (limits enough) (standingTasks 4) (toldPut 9 false))
+    ∷ []
 
 -- every number that an outcome can have is shown
 abbrev pub everyNumberShown : Bool

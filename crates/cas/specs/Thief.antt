@@ -10,7 +10,7 @@ use Rattle.cas.specs.Types.{Index, Load, NoSlot, SlotOf, Outcome, Moved,
 abbrev pub idleThief : Thief
 idleThief = record { call = ThiefCall.Idle }
 
--- an index whose slot the next step loads is a slot's
+-- an index is a slot's where the next step loads from its slot; otherwise it is one of head
 abbrev pub thiefInRange : ThiefCall → Bool
 thiefInRange ThiefCall.Idle = true
 thiefInRange StealLoadHead = true

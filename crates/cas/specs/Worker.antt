@@ -1,4 +1,4 @@
--- Each step of a put and of a take: what it does, from what the worker sees. Renders, of request 5 in 02, when a put is FULL and the sentence on the take (002's Figure 2c, without its fence), and of 01 the other steps of a put, what a
+-- Each step of a put and of a take: what it does, from what the worker sees. Renders, of request 5 in 02, when a put is FULL and the sentence on the take (002's Figures 2a and 2c, without the fence), and of 01 the other steps of a put, what a
 -- new pending store needs, and 5 and 7 of "The numbers" for them. Each store names the call that makes it, since the spacing rule goes by that (`counts`, of `stores`).
 use mathlib.Core.Path.{_≡_}
 use mathlib.Core.Bool.{Bool, true, false, cond}
@@ -10,7 +10,7 @@ use Rattle.cas.specs.Types.{Index, Load, NoSlot, SlotOf, Outcome, Moved,
 
 -- ── Calls ───────────────────────────────────────────────────────────────────────────────────────────────────────────────────
 
--- an index that a call holds only to load its slot is a slot's
+-- an index is a slot's where the next step loads from its slot; before that it is one of head or tail
 abbrev pub workerInRange : WorkerCall → Bool
 workerInRange WorkerCall.Idle = true
 workerInRange (PutLoadHead x) = true

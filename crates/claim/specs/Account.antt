@@ -10,14 +10,14 @@ use Rattle.claim.specs.PlainQueue.{StoredTask, storedBy, takenBy}
 use Rattle.claim.specs.Implementation.{Implementation}
 use Rattle.claim.specs.Watch.{Event, events, watchFresh, watched}
 
--- the tasks that the plain queue has stored, and those that it has given to the worker's takes, in the order of the effects
+-- the tasks that the plain queue has stored, and those that it has given to the worker's takes but for takes won by a swap, in the order of the effects
 abbrev pub storedIn : List Event → List StoredTask
 storedIn h = concatMap (λ v. concatMap (storedBy (v .queue)) (v .told)) h
 
 abbrev pub takenIn : List Event → List StoredTask
 takenIn h = concatMap (λ v. concatMap (takenBy (v .queue)) (v .told)) h
 
--- After every list the sum of the run's own queue is start + stored − taken by the worker. Proved in `proofs/Sum.antt`.
+-- After every list the sum of the run's own queue is start + stored − taken by the worker without a swap. Proved in `proofs/Sum.antt`.
 abbrev pub SumCounts : {M E : Type 0} → Implementation M E → Type 0
 SumCounts {M} {E} b =
     (s : Sizes) (es : List E)

@@ -44,8 +44,8 @@ isNothing (aPut x) = false
 isNothing aTake = false
 isNothing aSteal = false
 
--- Whether the running call takes effect at an entry, and then what the step decides: whether a put is FULL, a steal ABORT, or a take was won by
--- a compare-and-swap (02's request 5; none of 01's queue is).
+-- Whether the running call takes effect at an entry, and then what the step decides: whether a put is FULL, a steal ABORT, or a take came to
+-- a compare-and-swap (02's request 5; none of 01's queue does).
 pub data Effect : Type 0 where
   none : Effect
   decided : Bool → Effect

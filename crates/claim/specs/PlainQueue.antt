@@ -24,7 +24,7 @@ abbrev pub emptyQueue : ℕ → PlainQueue
 emptyQueue start = record { tasks = []; sum = start; stored = 0 }
 
 -- What the queue is told, in 01's word: a call, with a put its number and whether the step says FULL, with a steal whether it says ABORT, and with a
--- take whether a compare-and-swap won it, which the sum leaves out (02's request 5; in 01's queue none does).
+-- take whether it came to a compare-and-swap, won or lost: the sum leaves out a take that a swap has won (02's request 5; in 01's queue none does).
 pub data Told : Type 0 where
   toldPut : ℕ → Bool → Told
   toldTake : Bool → Told

@@ -14,13 +14,13 @@ use Rattle.claim.specs.PlainQueue.{emptyQueue}
 use Rattle.claim.specs.Calls.{Party, answersTo, noCall}
 use Rattle.claim.specs.Implementation.{Implementation}
 use Rattle.claim.specs.Run.{hiddenOf}
-use Rattle.claim.specs.Watch.{Watch, watchAfter, watchFresh}
+use Rattle.claim.specs.Watch.{Watch, toldAt, watchAfter, watchFresh}
 
 -- ── Rows ────────────────────────────────────────────────────────────────────────────────────────────────────────────────────
 
 -- A line of a story: an entry with its outcome, or a look at memory's head, at memory's tail, at what one of memory's slots holds, at
--- the spacing count, at how many tasks stand, at the numbers of those in the plain queue and in the slots, or at what a party's call owes and the plain
--- queue has answered to it.
+-- the spacing count, at how many tasks stand, at the numbers of those in the plain queue and in the slots, at what a party's call owes and the plain
+-- queue has answered to it, or at how many calls the plain queue is told of at an entry.
 pub data Line : Type 0 where
   does : Entry → Outcome → Line
   headIs : ℤ → Line
@@ -30,6 +30,7 @@ pub data Line : Type 0 where
   tasksStand : ℕ → Line
   standing : List ℕ → Line
   owed : Party → Outcome → Line
+  tells : Entry → ℕ → Line
 
 pub data Row (M : Type 0) : Type 0 where
   -- the needed margin of a buffer size and a spacing
@@ -64,6 +65,7 @@ entryIn (countIs n) = []
 entryIn (tasksStand n) = []
 entryIn (standing xs) = []
 entryIn (owed p o) = []
+entryIn (tells e n) = []
 
 abbrev pub entriesIn : List Line → List Entry
 entriesIn l = concatMap entryIn l
@@ -98,6 +100,7 @@ module _ {M : Type 0} (b : Implementation M Entry) (looks : Looks M) where
   comesTrue w (standing xs ∷ l) =
       equal (map (λ t. t .number) (w .queue .tasks)) xs && equal (b .standing (w .machine)) xs && equal (b .standingNow (w .machine)) xs && comesTrue w l
   comesTrue w (owed p o ∷ l) = sameOutcomes (b .owes (w .machine) p) (o ∷ []) && sameOutcomes (answersTo (w .calls p)) (o ∷ []) && comesTrue w l
+  comesTrue w (tells e n ∷ l) = eqb (length (toldAt b w e)) n && comesTrue w l
 
   -- a machine that is handed in, with a plain queue that knows nothing of it
   abbrev pub watchHanded : M → Watch M
@@ -123,6 +126,7 @@ numberIn (countIs n) = []
 numberIn (tasksStand n) = []
 numberIn (standing xs) = []
 numberIn (owed p o) = []
+numberIn (tells e n) = []
 
 -- the numbers of the outcomes that a row shows
 abbrev pub numbersIn : {M : Type 0} → Row M → List ℕ

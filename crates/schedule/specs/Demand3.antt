@@ -1,4 +1,4 @@
--- Demand 3 of a trace that was written: with enough margin, the answers in its bytes are those of the plain queue, and no task is lost or given twice. The claim itself, and the plain queue, are those of `claim`; what they know of FF-THE is in `machine`; the machine's own account is in `properties`. `run` promises it. It is said of any queue on its machine.
+-- Demand 3 of a trace that was written: with enough margin, the answers in its bytes are those of the plain queue, and no task is lost or given twice. The claim itself, and the plain queue, are those of `claim`; what they know of FF-THE and of FF-CL is in `machine` and `cas`; a machine's own account is in `properties`. `run_on` promises it. It is said of any queue on its machine.
 use mathlib.Core.Path.{_≡_}
 use mathlib.Core.Bool.{true, cond}
 use mathlib.Core.List.{List, [], _∷_, _++_, map}

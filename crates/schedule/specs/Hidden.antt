@@ -21,6 +21,6 @@ pub record LagOf {M : Type 0} (b : Implementation M Entry) (file : List ℕ) (s 
 abbrev pub LagBounded : {M : Type 0} → Implementation M Entry → Type 0
 LagBounded b = (file : List ℕ) (s : Sizes) (n : ℕ) → readFile file ≡ Accepted s n → LagOf b file s
 
--- and `run` promises of its answer, whichever queue it runs, that it is within the needed margin
+-- and `run_on` promises of its answer, whichever queue it runs, that it is within the needed margin
 abbrev pub RunWithinNeeded : List ℕ → Running → Type 0
 RunWithinNeeded file answer = (t : Summary) → answer ≡ Ran t → t .hidden ≤ neededMargin (sizesIn file .buffer) (sizesIn file .spacing)

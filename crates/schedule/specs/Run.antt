@@ -1,4 +1,4 @@
--- A file run, by any queue on its machine, and one step of a run. A name that ends in `By` is of any queue, which is its first argument; without these letters it is of FF-THE. Renders "Order" and "Trace", of "The numbers", as far as they are about a run, 8 ROOM, the totals of "The program's lines", and of request 4, in 02, that each entry hands its number on.
+-- A file run, by any queue on its machine, and one step of a run. A name that ends in `By` is of any queue, and one that ends in `On` of the one that is named; the same name without these letters is of FF-THE. Renders "Order" and "Trace", of "The numbers", as far as they are about a run, 8 ROOM, the totals of "The program's lines", and of request 4, in 02, that each entry hands its number on.
 use mathlib.Core.Path.{_≡_}
 use mathlib.Core.Bool.{cond, false}
 use mathlib.Core.List.{List, [], _∷_, map}

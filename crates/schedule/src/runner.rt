@@ -198,7 +198,7 @@ fn cas_obey_from(machine: cas::Machine, kinds: &[u8], operands: &[u8], trace: &m
     }
 }
 
-// The same on the queue that is named.
+// Obeys the entries of the two parts of a file as `obey_entries` does, on the queue that is named.
 pub fn obey_entries_on(queue: Queue, sizes: Sizes, kinds: &[u8], operands: &[u8], trace: &mut [u8]) -> Summary
     ensures { λ r. ⌜ r ≡ summaryFromOn queue sizes (now (kinds .entry)) (wordsIn (now (operands .entry))) ⌝ }
     ensures { λ _. ⌜ now (trace .exit) ≡ tracePut (outcomesFromOn queue sizes (now (kinds .entry)) (wordsIn (now (operands .entry)))) (now (trace .entry)) ⌝ }
@@ -230,7 +230,7 @@ pub fn run_on(queue: Queue, file: &[u8], trace: &mut [u8]) -> Running
     Running::Ran(obey_entries_on(queue, sizes, kinds, operands, trace))
 }
 
-// .. on FF-THE.
+// Runs a schedule file on FF-THE, as `run_on` does.
 pub fn run(file: &[u8], trace: &mut [u8]) -> Running
     ensures { λ r. ⌜ r ≡ runFile (now (file .entry)) (length (now (trace .entry))) ⌝ }
     ensures { λ _. ⌜ now (trace .exit) ≡ traceAfter (now (file .entry)) (now (trace .entry)) ⌝ }

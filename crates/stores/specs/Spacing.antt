@@ -1,5 +1,5 @@
 -- The spacing rule. Renders the paragraph on it in "The machine", as request 1 widens it, and, of "Parts", the range of the spacing count. That a take which is too early gets 6 EARLY, and
--- that the count begins anew as a take begins, is in `Entries`, of `machine`.
+-- that the count begins anew as a take begins, is in `Entries`, of each machine.
 use mathlib.Core.Bool.{Bool, true, false, cond, _&&_}
 use Prim.Native.Nat.{ℕ, _+_}
 use lib.Dec.{leb, ltb}

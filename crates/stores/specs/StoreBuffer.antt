@@ -1,5 +1,5 @@
 -- The store buffer. Renders, of the first paragraph of "The machine", the worker's pending stores, their drain and what the worker loads; and, of request 4 in 02, how many pending stores are of take step 1.
--- (How many may be pending: `hasRoom`, of `machine`.) It knows no step of a queue, only which stores lower the tail; and who makes a store (`Maker`) is nothing to it.
+-- (How many may be pending: `hasRoom`, of each machine.) It knows no step of a queue, only which stores lower the tail; and who makes a store (`Maker`) is nothing to it.
 use mathlib.Core.Bool.{Bool, true, false, cond, _&&_, _||_}
 use mathlib.Core.List.{List, [], _∷_, _++_, foldl}
 use Prim.Native.Nat.{ℕ, _+_, _-_}
@@ -113,7 +113,7 @@ lowersTail t (Tail u) = ltZ (u .at) (t .at)
 lowersTail t (Slot x i) = false
 
 -- How many of some stores, oldest first, are of take step 1: tail stores below the tail store before them or, for the first, below memory's tail. The index is memory's tail. (In a run these are the stores that take step 1
--- has made, and no others: `TakeStoresAreTakes`, of `properties`.)
+-- has made, and no others; of FF-THE that is said by who made them: `TakeStoresAreTakes`, of `properties`.)
 abbrev pub takeStores : Index → List Store → ℕ
 takeStores t [] = 0
 takeStores t (a ∷ b) = cond (lowersTail t (a .kind)) 1 0 + takeStores (tailAfter t (a .kind)) b
