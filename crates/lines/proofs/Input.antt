@@ -19,7 +19,7 @@ use Rattle.schedule.specs.Format.{decode, entriesIn, kindsIn, layout, operandsI
 use Rattle.schedule.specs.Reader.{readFile, readingOf}
 use Rattle.schedule.proofs.Laws.Check.{few-entries}
 use Rattle.schedule.proofs.Laws.Format.{total}
-use Rattle.lines.specs.Types.{Refusal}
+use Rattle.lines.specs.Types.{Queue, Refusal}
 use Rattle.lines.specs.Lines.{linesFor, linesOf, refusalLine}
 use Rattle.lines.specs.Input.{BeginningDecides}
 

@@ -15,6 +15,9 @@ use Rattle.cas.specs.Machine.{done, fresh, inRange}
 use Rattle.cas.proofs.Laws.Hidden.{hidden-out}
 use Rattle.cas.proofs.Laws.InRange.{bounds}
 use Rattle.cas.proofs.Laws.Obey.{out-of-range-waits}
+use Rattle.cas.proofs.Linearizable.Theorem.{demand3}
+use Rattle.properties.proofs.CasRenumbering.{cas-blind-to-numbers}
+use Rattle.properties.proofs.FfCl.{cas-hidden-within-needed, cas-none-lost-or-given-twice}
 use Rattle.schedule.specs.Types.{Entry, Sizes, ThiefStep}
 use Rattle.cas.proofs.Linearizable.Theorem.{demand3}
 use Rattle.properties.proofs.CasRenumbering.{cas-blind-to-numbers}

@@ -28,5 +28,5 @@ module _ (q : Queue) (file trace : List ℕ) (bytes : allBelow 256 file ≡ true
       (refl, (refl, (linearizes q file trace bytes, (refuses-faults q file (length trace), within-needed q file (length trace))))))
 
   -- of a refusal, with the buffer as it was
-  pub refusal-promises : {r : Refusal} → runFileOn q file (length trace) ≡ running.Refused r → answer ≡ running.Refused r → Promised q file trace answer trace
-  refusal-promises refused told = run-promises (told ∙ sym refused) (sym (untouched q file trace refused))
+  pub refusal-promises : {after : List ℕ} {r : Refusal} → runFileOn q file (length trace) ≡ running.Refused r → answer ≡ running.Refused r → after ≡ trace → Promised q file trace answer after
+  refusal-promises refused told kept = run-promises (told ∙ sym refused) (kept ∙ sym (untouched q file trace refused))

@@ -3,10 +3,9 @@ use mathlib.Core.Path.{_≡_}
 use mathlib.Core.Bool.{true}
 use mathlib.Core.List.{List, map}
 use Prim.Native.Nat.{ℕ, _≤_, _<_}
-use lib.ListN.{length, replicate}
+use lib.ListN.{length}
 use Rattle.cas.specs.Linearizable.{ffCl}
 use Rattle.machine.specs.Linearizable.{ffThe}
-use Rattle.number.specs.Number.{overwritten}
 use Rattle.terms.specs.Outcome.{valueOf}
 use Rattle.terms.specs.Refusal.{Refuses}
 use Rattle.schedule.specs.Types.{Accepted, FfCl, FfThe, Queue, Ran, Refusal, Room, Sizes}
@@ -18,7 +17,7 @@ use Rattle.schedule.specs.Format.{allBelow, wordsIn}
 use Rattle.schedule.specs.Hidden.{RunWithinNeeded}
 use Rattle.schedule.specs.Reader.{readFile}
 use Rattle.schedule.specs.Run.{outcomesFromOn, outcomesInOn, runFileOn, summaryFromOn, summaryInOn, traceAfterOn, tracePut}
-use Rattle.schedule.specs.Trace.{traceFits, traceLength, traceOf}
+use Rattle.schedule.specs.Trace.{traceFits, traceLength}
 use Rattle.schedule.proofs.Demand3.{run-linearizes}
 use Rattle.schedule.proofs.Faults.{refused-run-untouched, runner-refuses-faults}
 use Rattle.schedule.proofs.FfCl.{ffCl-proved}
@@ -43,16 +42,10 @@ module _ (q : Queue) {file : List ℕ} {s : Sizes} {kinds operands : List ℕ} {
   pub parts-summary : summaryFromOn q s kinds (wordsIn operands) ≡ summaryInOn q file
   parts-summary = by-queue (λ q. summaryFromOn q s kinds (wordsIn operands) ≡ summaryInOn q file) (law.parts-summary ffThe parts) (law.parts-summary ffCl parts) q
 
-module _ (q : Queue) (s : Sizes) (kinds operands : List ℕ) where
-  -- there are as many outcomes as entries
-  pub length-outcomesFrom : length (outcomesFromOn q s kinds operands) ≡ length kinds
-  length-outcomesFrom = by-queue (λ q. length (outcomesFromOn q s kinds operands) ≡ length kinds) (law.length-outcomesFrom ffThe s kinds operands) (law.length-outcomesFrom ffCl s kinds operands) q
-
-  -- their trace stands in the longest one
-  pub longest-put : length kinds ≤ 4096 → tracePut (outcomesFromOn q s kinds operands) (replicate 20484 0) ≡ overwritten 0 (traceOf (outcomesFromOn q s kinds operands)) (replicate 20484 0)
-  longest-put few =
-      by-queue (λ q. tracePut (outcomesFromOn q s kinds operands) (replicate 20484 0) ≡ overwritten 0 (traceOf (outcomesFromOn q s kinds operands)) (replicate 20484 0))
-      (law.longest-put ffThe s kinds operands few) (law.longest-put ffCl s kinds operands few) q
+-- there are as many outcomes as entries
+pub length-outcomesFrom : (q : Queue) (s : Sizes) (kinds operands : List ℕ) → length (outcomesFromOn q s kinds operands) ≡ length kinds
+length-outcomesFrom q s kinds operands =
+    by-queue (λ q. length (outcomesFromOn q s kinds operands) ≡ length kinds) (law.length-outcomesFrom ffThe s kinds operands) (law.length-outcomesFrom ffCl s kinds operands) q
 
 -- every value fits four bytes
 pub parts-values-fit : (q : Queue) (s : Sizes) (kinds bytes : List ℕ) → allBelow 256 bytes ≡ true → allBelow 4294967296 (map valueOf (outcomesFromOn q s kinds (wordsIn bytes))) ≡ true

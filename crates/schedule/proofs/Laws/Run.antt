@@ -324,8 +324,6 @@ trace-after-run b file trace {s} {n} accepted fits =
     ap (traceIf (traceOf os) trace) (run-with-room b file (length trace) s n accepted (fits-room n (length trace) fits))
     ∙ sym (trace-put os trace (ap (λ k. traceFits k (length trace)) (outcomes-counted b file s n accepted) ∙ fits))
 
--- .. and that of two arrays, of at most 4,096 entries, in the longest trace
-pub longest-put : {M : Type 0} (b : Implementation M Entry) (s : Sizes) (kinds operands : List ℕ) → length kinds ≤ 4096
-    → tracePut (outcomesFromBy b s kinds operands) (replicate 20484 0) ≡ overwritten 0 (traceOf (outcomesFromBy b s kinds operands)) (replicate 20484 0)
-longest-put b s kinds operands few =
-    trace-put (outcomesFromBy b s kinds operands) (replicate 20484 0) (longest-fits (length (outcomesFromBy b s kinds operands)) (omega (arith, length-outcomesFrom b s kinds operands)))
+-- .. and that of at most 4,096 outcomes in the longest trace
+pub longest-put : (os : List Outcome) → length os ≤ 4096 → tracePut os (replicate 20484 0) ≡ overwritten 0 (traceOf os) (replicate 20484 0)
+longest-put os few = trace-put os (replicate 20484 0) (longest-fits (length os) few)

@@ -4,15 +4,13 @@ use Prim.Native.Nat.{_<_}
 use native.Mathlib.Omega.{arith}
 use borrow.Author.Needs.{needs}
 use lib.ListN.{length}
-use Rattle.machine.specs.Linearizable.{ffThe}
 use Rattle.terms.specs.Refusal.{placeOf}
 use Rattle.terms.proofs.Laws.Tests.{known}
 use Rattle.number.specs.Number.{overwritten}
-use Rattle.schedule.specs.Format.{wordsIn}
 use Rattle.schedule.specs.Reader.{refusalOf}
-use Rattle.schedule.specs.Run.{outcomesFrom, summaryFrom}
 use Rattle.schedule.proofs.Laws.Bytes.{each-below}
 use Rattle.schedule.proofs.Laws.Run.{parts-obeyed}
+use Rattle.schedule.proofs.Queues.{parts-outcomes, parts-summary}
 use Rattle.lines.specs.Lines.{linesFor, refusalLine, runLines}
 use Rattle.lines.proofs.Laws.Lines.{place-fits}
 use Rattle.lines.proofs.lines.put_lines.Statement.{statement}
@@ -34,7 +32,7 @@ returns c =
     let asked = refused .before .before .before .before in
     let a = asked .before .before .before .args in
     let told = known (asked .read .ensures .0) (refused .before .before .enum-told .given .1) in
-    let line = ap refusalLine (refused .refusal-of .ensures ∙ ap refusalOf (asked .read .ensures .0 ∙ told)) ∙ sym (ap (linesFor (a .file .now)) told) in
+    let line = ap refusalLine (refused .refusal-of .ensures ∙ ap refusalOf (asked .read .ensures .0 ∙ told)) ∙ sym (ap (linesFor (a .queue) (a .file .now)) told) in
     ((put .put-refusal .ensures .0 .0 ∙ ap length line, omega arith), put .put-refusal .ensures .1 ∙ ap (λ l. overwritten 0 l (a .text .now)) line)
 
 put-run-requires : tie.Need-put-run-requires
@@ -43,8 +41,8 @@ put-run-requires c κs =
     let opened = cut .before .before in
     let asked = opened .before .before in
     let start = asked .before .before .before in
-    let parts = parts-obeyed ffThe (start .args .file .now) _ _ (known (asked .read .ensures .0) (opened .reading .given .1)) in
-    (omega (arith, start .pre), omega (arith, ap length (cut .kind-part .ensures .0), parts .many, parts .few))
+    let parts = parts-obeyed (start .args .file .now) (known (asked .read .ensures .0) (opened .reading .given .1)) (cut .kind-part .ensures .0) (c .before .operand-part .ensures .0) in
+    (omega (arith, start .pre), omega (arith, parts .many, parts .few))
 
 returns-2 : tie.Need-returns-2
 returns-2 c =
@@ -56,13 +54,8 @@ returns-2 c =
     let file = a .file .now in
     let s = opened .reading .given .0 .0 in
     let told = known (asked .read .ensures .0) (opened .reading .given .1) in
-    let parts = parts-obeyed ffThe file s (opened .reading .given .0 .1 .0) told in
-    let lines =
-    (λ i.
-    runLines s (outcomesFrom s (cut .before .kind-part .ensures .0 i) (wordsIn (cut .operand-part .ensures .0 i)))
-    (summaryFrom s (cut .before .kind-part .ensures .0 i) (wordsIn (cut .operand-part .ensures .0 i))))
-    ∙ (λ i. runLines s (parts .outcomes i) (parts .summary i))
-    ∙ sym (ap (linesFor file) told) in
+    let parts = parts-obeyed file told (cut .before .kind-part .ensures .0) (cut .operand-part .ensures .0) in
+    let lines = (λ i. runLines (a .queue) s (parts-outcomes (a .queue) parts i) (parts-summary (a .queue) parts i)) ∙ sym (ap (linesFor (a .queue) file) told) in
     ((put .put-run .ensures .0 .0 ∙ ap length lines, omega (arith, put .put-run .ensures .0 .1)), put .put-run .ensures .1 ∙ ap (λ l. overwritten 0 l (a .text .now)) lines)
 
 pub put-lines-spec : {M : Type 1} → statement M

@@ -22,7 +22,7 @@ returns c =
     let bytes = each-below 256 (a .file .now) (λ i. omega (arith, asked .before .before .shared-slice-known .given i)) in
     let told = known (asked .read .ensures .0) (c .before .enum-told .given .1) in
     refusal-promises (a .queue) (a .file .now) (a .trace .now) bytes (run-refused (a .queue) (a .file .now) (length (a .trace .now)) told)
-    (ap running.Refused (c .refusal-of .ensures ∙ ap refusalOf (asked .read .ensures .0 ∙ told)))
+    (ap running.Refused (c .refusal-of .ensures ∙ ap refusalOf (asked .read .ensures .0 ∙ told))) refl
 
 returns-2 : tie.Need-returns-2
 returns-2 c =
@@ -32,7 +32,7 @@ returns-2 c =
     let bytes = each-below 256 (a .file .now) (λ i. omega (arith, asked .before .before .shared-slice-known .given i)) in
     let told = known (asked .read .ensures .0) (opened .reading .given .1) in
     let small = fits-not _ (length (a .trace .now)) (parts-obeyed (a .file .now) told refl refl .few) (denied (c .before .trace-fits .ensures) (c .if1 .taken)) in
-    refusal-promises (a .queue) (a .file .now) (a .trace .now) bytes (run-without-room (a .queue) (a .file .now) (length (a .trace .now)) told small) refl
+    refusal-promises (a .queue) (a .file .now) (a .trace .now) bytes (run-without-room (a .queue) (a .file .now) (length (a .trace .now)) told small) refl refl
 
 returns-3 : tie.Need-returns-3
 returns-3 c =
