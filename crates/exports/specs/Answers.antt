@@ -16,7 +16,7 @@ use Rattle.comparison.specs.Alike.{likeness}
 use Rattle.share_sheet.specs.Sheet.{sheetAfter, makeSheet}
 use Rattle.share_sheet.specs.Sheets.{design, designSheet, enough}
 use Rattle.writer.specs.Writer.{writeFile}
-use Rattle.exports.specs.Types.{Refusal, Room, Sizes}
+use Rattle.exports.specs.Types.{FfCl, FfThe, Queue, Refusal, Room, Sizes}
 use Rattle.exports.specs.Answer.{likenessAnswer, readingAnswer, refusalAnswer, runInto, runningAnswer, sheetAnswer, sizesAfter, totalsAfter, traceInto, writingAnswer}
 
 pub data Row : Type 0 where
@@ -24,8 +24,8 @@ pub data Row : Type 0 where
   answers : Refusal → ℕ → Row
   -- a file, bytes lent for its sizes, what is answered, and what the bytes hold afterwards
   reads : (file bytes : List ℕ) (answer : ℕ) (after : List ℕ) → Row
-  -- a file, a trace buffer, bytes lent for the totals, what is answered, and what buffer and bytes hold afterwards; of the buffer as many bytes as are given
-  runs : (file trace totals : List ℕ) (answer : ℕ) (begins after : List ℕ) → Row
+  -- a queue, a file, a trace buffer, bytes lent for the totals, what is answered, and what buffer and bytes hold afterwards; of the buffer as many bytes as are given
+  runs : Queue → (file trace totals : List ℕ) (answer : ℕ) (begins after : List ℕ) → Row
   -- two files, and what is answered
   compares : (first second : List ℕ) (answer : ℕ) → Row
   -- sizes, arrays and room, and what is answered
@@ -36,10 +36,10 @@ pub data Row : Type 0 where
 abbrev pub holds : Row → Bool
 holds (answers r answer) = eqb (refusalAnswer r) answer
 holds (reads file bytes answer after) = eqb (readingAnswer (readFile file) bytes) answer && equal (sizesAfter (readFile file) bytes) after
-holds (runs file trace totals answer begins after) =
-    eqb (runningAnswer (runInto file (length trace) totals)) answer
-    && equal (take (length begins) (traceInto file trace totals)) begins
-    && equal (totalsAfter (runInto file (length trace) totals) totals) after
+holds (runs q file trace totals answer begins after) =
+    eqb (runningAnswer (runInto q file (length trace) totals)) answer
+    && equal (take (length begins) (traceInto q file trace totals)) begins
+    && equal (totalsAfter (runInto q file (length trace) totals) totals) after
 holds (compares first second answer) = eqb (likenessAnswer (likeness first second)) answer
 holds (writes s kinds operands room answer) = eqb (writingAnswer (writeFile s kinds operands room)) answer
 holds (shares file count buffer answer after) = eqb (sheetAnswer (makeSheet file count (length buffer))) answer && equal (sheetAfter file count buffer) after
@@ -66,14 +66,20 @@ table =
     ∷ reads (exampleFile ++ (0 ∷ [])) (before 24) 8589934592 (before 24)
     ∷ reads [] (before 23) 8589934592 (before 23)
     -- three totals and how far memory lagged in 16 bytes, and nothing in fewer; what is refused leaves trace and totals
-    ∷ runs exampleFile (before 34) (before 17) 0 (6 ∷ 0 ∷ 0 ∷ 0 ∷ []) (fourWords 0 0 1 0 ++ before 1)
-    ∷ runs exampleFile (before 36) (before 17) 0 (exampleTrace ++ before 2) (fourWords 0 0 1 0 ++ before 1)
-    ∷ runs (file (sized 4 2 0 1 1 0) twoTakesAndASteal) (before 139) (before 16) 0 (27 ∷ 0 ∷ 0 ∷ 0 ∷ []) (fourWords 3 0 0 2)
-    ∷ runs (file (sized 4 2 0 2 1 0) (twoTakesAndASteal ++ drains)) (before 149) (before 16) 0 (29 ∷ 0 ∷ 0 ∷ 0 ∷ []) (fourWords 2 1 0 2)
-    ∷ runs exampleFile (before 34) (before 15) 34359738368 (before 4) (before 15)
-    ∷ runs exampleFile (before 33) (before 16) 34359738368 (before 4) (before 16)
-    ∷ runs [] (before 34) (before 16) 8589934592 (before 4) (before 16)
-    ∷ runs [] (before 34) (before 15) 8589934592 (before 4) (before 15)
+    ∷ runs FfThe exampleFile (before 34) (before 17) 0 (6 ∷ 0 ∷ 0 ∷ 0 ∷ []) (fourWords 0 0 1 0 ++ before 1)
+    ∷ runs FfThe exampleFile (before 36) (before 17) 0 (exampleTrace ++ before 2) (fourWords 0 0 1 0 ++ before 1)
+    ∷ runs FfThe (file (sized 4 2 0 1 1 0) twoTakesAndASteal) (before 139) (before 16) 0 (27 ∷ 0 ∷ 0 ∷ 0 ∷ []) (fourWords 3 0 0 2)
+    ∷ runs FfThe (file (sized 4 2 0 2 1 0) (twoTakesAndASteal ++ drains)) (before 149) (before 16) 0 (29 ∷ 0 ∷ 0 ∷ 0 ∷ []) (fourWords 2 1 0 2)
+    ∷ runs FfThe exampleFile (before 34) (before 15) 34359738368 (before 4) (before 15)
+    ∷ runs FfThe exampleFile (before 33) (before 16) 34359738368 (before 4) (before 16)
+    ∷ runs FfThe [] (before 34) (before 16) 8589934592 (before 4) (before 16)
+    ∷ runs FfThe [] (before 34) (before 15) 8589934592 (before 4) (before 15)
+    -- so it is for FF-CL, whose second take here has to wait for drains
+    ∷ runs FfCl exampleFile (before 36) (before 17) 0 (exampleTrace ++ before 2) (fourWords 0 0 1 0 ++ before 1)
+    ∷ runs FfCl (file (sized 4 2 0 1 1 0) twoTakesAndASteal) (before 139) (before 16) 0 (27 ∷ 0 ∷ 0 ∷ 0 ∷ []) (fourWords 2 0 1 2)
+    ∷ runs FfCl exampleFile (before 34) (before 15) 34359738368 (before 4) (before 15)
+    ∷ runs FfCl exampleFile (before 33) (before 16) 34359738368 (before 4) (before 16)
+    ∷ runs FfCl [] (before 34) (before 16) 8589934592 (before 4) (before 16)
     -- alike, not alike, and refused, the first file first
     ∷ compares exampleFile exampleFile 1
     ∷ compares exampleFile differentFile 0

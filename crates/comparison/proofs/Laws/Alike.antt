@@ -27,7 +27,7 @@ use Rattle.schedule.specs.Reader.{kindPart, operandPart, readFile}
 use Rattle.schedule.specs.Run.{entriesOf, outcomesFrom}
 use Rattle.machine.specs.Linearizable.{ffThe}
 use Rattle.machine.specs.Machine.{fresh}
-use Rattle.schedule.proofs.Laws.Run.{entry-there, length-entriesUpTo, length-outcomesOf, line-there, parts-obeyed}
+use Rattle.schedule.proofs.Laws.Run.{entry-there, length-entriesUpTo, length-outcomesOf, line-there, parts-obeyed, parts-outcomes}
 
 -- ── The comparison in bytes ─────────────────────────────────────────────────────────────────────────────────────────────────
 
@@ -84,9 +84,9 @@ pub same-files : (file other : List ℕ) (s : Sizes) (n m : ℕ) → readFile fi
     → sameRuns s (kindPart file (Accepted s n)) (wordsIn (operandPart file (Accepted s n))) (kindPart other (Accepted s m)) (wordsIn (operandPart other (Accepted s m)))
     ≡ sameAnswers (s .thieves) file other
 same-files file other s n m accepted other-accepted =
-    let one = parts-obeyed ffThe file s n accepted in
-    let two = parts-obeyed ffThe other s m other-accepted in
-    λ i. all (λ party. sameLines (answersFor party (one .entries i) (one .outcomes i)) (answersFor party (two .entries i) (two .outcomes i))) (range (s .thieves + 1))
+    let one = parts-obeyed file accepted refl refl in
+    let two = parts-obeyed other other-accepted refl refl in
+    λ i. all (λ party. sameLines (answersFor party (one .entries i) (parts-outcomes ffThe one i)) (answersFor party (two .entries i) (parts-outcomes ffThe two i))) (range (s .thieves + 1))
 
 -- ── The tests are equality ──────────────────────────────────────────────────────────────────────────────────────────────────
 

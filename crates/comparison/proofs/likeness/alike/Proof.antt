@@ -4,7 +4,6 @@ use mathlib.Core.Bool.{Bool, cond, _&&_}
 use native.Mathlib.Omega.{arith}
 use borrow.Author.Needs.{needs}
 use lib.ListN.{length}
-use Rattle.machine.specs.Linearizable.{ffThe}
 use Rattle.terms.proofs.Laws.Tests.{known}
 use Rattle.comparison.specs.Types.{Accepted, Alike, FirstRefused, NotAlike, SecondRefused}
 use Rattle.comparison.specs.Alike.{LikenessRefuses, likeness, likenessOf, sameAnswers}
@@ -58,9 +57,9 @@ same-runs-requires c κs =
     let opened = other .before .before .before .before in
     let a = opened .before .before .before .before .before .args in
     let both = readings (cut .before) in
-    let one = parts-obeyed ffThe (a .first .now) (opened .reading .given .0 .0) (opened .reading .given .0 .1 .0) (both .0) in
-    let two = parts-obeyed ffThe (a .second .now) (opened .reading .given .0 .0) (other .other .given .0 .1 .0) (both .1) in
-    (omega (arith, ap length (cut .kind-part .ensures .0), one .many, one .few), omega (arith, ap length (c .before .kind-part2 .ensures .0), two .many, two .few))
+    let one = parts-obeyed (a .first .now) (both .0) (cut .kind-part .ensures .0) refl in
+    let two = parts-obeyed (a .second .now) (both .1) (c .before .kind-part2 .ensures .0) refl in
+    (omega (arith, one .many, one .few), omega (arith, two .many, two .few))
 
 -- what `same_runs` finds is found of the two files
 found : (c : tie.After-same-runs)

@@ -8,9 +8,10 @@ use Rattle.comparison.specs.Comparison.{linesFrom}
 use Rattle.comparison.proofs.Laws.Alike.{lines-of-run, same-runs}
 use Rattle.machine.specs.Linearizable.{ffThe}
 use Rattle.schedule.specs.Format.{wordsIn}
+use Rattle.schedule.specs.Run.{outcomesFrom}
 use Rattle.schedule.proofs.Laws.Bytes.{each-below}
 use Rattle.schedule.proofs.FfThe.{ffThe-proved}
-use Rattle.schedule.proofs.Laws.Run.{fits-room, longest-fits, longest-put, parts-values-fit}
+use Rattle.schedule.proofs.Laws.Run.{fits-room, length-outcomesFrom, longest-fits, longest-put, parts-values-fit}
 use Rattle.comparison.proofs.likeness.same_runs.Statement.{statement}
 use Rattle.comparison.proofs.likeness.same_runs.Tie as tie
 
@@ -39,8 +40,8 @@ returns c =
     let other-operands = wordsIn (a .other-operands .now) in
     let bytes = each-below 256 (a .operands .now) (λ i. omega (arith, known .before .before .shared-slice-known2 .given i)) in
     let other-bytes = each-below 256 (a .other-operands .now) (λ i. omega (arith, known .shared-slice-known4 .given i)) in
-    let trace = first .obey-entries .ensures .1 ∙ longest-put ffThe (a .sizes) (a .kinds .now) operands (start .pre .0) in
-    let other-trace = ran .obey-entries2 .ensures .1 ∙ longest-put ffThe (a .sizes) (a .other-kinds .now) other-operands (start .pre .1) in
+    let trace = first .obey-entries .ensures .1 ∙ longest-put (outcomesFrom (a .sizes) (a .kinds .now) operands) (omega (arith, length-outcomesFrom ffThe (a .sizes) (a .kinds .now) operands, start .pre .0)) in
+    let other-trace = ran .obey-entries2 .ensures .1 ∙ longest-put (outcomesFrom (a .sizes) (a .other-kinds .now) other-operands) (omega (arith, length-outcomesFrom ffThe (a .sizes) (a .other-kinds .now) other-operands, start .pre .1)) in
     c .same-for-all .ensures
     ∙ same-runs (a .sizes) (a .kinds .now) operands (first .obey-entries .last .1 .1 .1 .0) (a .other-kinds .now) other-operands (ran .obey-entries2 .last .1 .1 .1 .0)
     (λ party. ap (λ t. linesFrom party (a .sizes) (a .kinds .now) operands t 0) trace ∙ lines-of-run party (a .sizes) (a .kinds .now) operands zeros (parts-values-fit ffThe ffThe-proved (a .sizes) (a .kinds .now) (a .operands .now) bytes))

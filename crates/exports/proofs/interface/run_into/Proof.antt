@@ -1,15 +1,15 @@
--- `rehearsal_run` meets its contract: the room for the totals decides, then the run's answer.
+-- `run_into` meets its contract: the room for the totals decides, then the run's answer.
 use mathlib.Core.Path.{_≡_, ap, sym, _∙_}
 use lib.ListN.{length}
 use borrow.Author.Needs.{needs}
 use borrow.Author.Tests.{le-ltb, lt-ltb}
 use Rattle.terms.proofs.Laws.Tests.{by-test, known}
 use Rattle.schedule.specs.Reader.{refusalOf}
-use Rattle.schedule.specs.Run.{traceAfter}
+use Rattle.schedule.specs.Run.{traceAfterOn}
 use Rattle.exports.specs.Types.{Running}
 use Rattle.exports.specs.Answer.{refusalAnswer, runInto, runningAnswer, totalsAfter, traceInto}
-use Rattle.exports.proofs.interface.rehearsal_run.Statement.{statement}
-use Rattle.exports.proofs.interface.rehearsal_run.Tie as tie
+use Rattle.exports.proofs.interface.run_into.Statement.{statement}
+use Rattle.exports.proofs.interface.run_into.Tie as tie
 
 returns : tie.Need-returns
 returns c =
@@ -20,13 +20,13 @@ returns c =
     )
 
 -- a run with room for the totals
-ran-into : (c : tie.After-run) {answer : Running} → c .run .result ≡ answer
+ran-into : (c : tie.After-run-on) {answer : Running} → c .run-on .result ≡ answer
     → let a = c .before .before .before .before .before .before .args in
-    (runInto (a .file .now) (length (a .trace .now)) (a .totals .now) ≡ answer) × (traceInto (a .file .now) (a .trace .now) (a .totals .now) ≡ traceAfter (a .file .now) (a .trace .now))
+    (runInto (a .queue) (a .file .now) (length (a .trace .now)) (a .totals .now) ≡ answer) × (traceInto (a .queue) (a .file .now) (a .trace .now) (a .totals .now) ≡ traceAfterOn (a .queue) (a .file .now) (a .trace .now))
 ran-into c told =
     let a = c .before .before .before .before .before .before .args in
     let enough = le-ltb (length (a .totals .now)) 16 (c .before .before .if1 .left) in
-    (by-test _ _ enough ∙ known (c .run .ensures .0) told, by-test _ _ enough)
+    (by-test _ _ enough ∙ known (c .run-on .ensures .0) told, by-test _ _ enough)
 
 returns-2 : tie.Need-returns-2
 returns-2 c =
@@ -35,7 +35,7 @@ returns-2 c =
     let ran = opened .before .before .before .before in
     let a = ran .before .before .before .before .before .before .args in
     let told = ran-into ran (opened .running .given .1) in
-    (sym (ap runningAnswer (told .0)), (ran .run .ensures .1 .0 ∙ sym (told .1), put .put-summary .ensures ∙ sym (ap (λ one. totalsAfter one (a .totals .now)) (told .0))))
+    (sym (ap runningAnswer (told .0)), (ran .run-on .ensures .1 .0 ∙ sym (told .1), put .put-summary .ensures ∙ sym (ap (λ one. totalsAfter one (a .totals .now)) (told .0))))
 
 returns-3 : tie.Need-returns-3
 returns-3 c =
@@ -43,10 +43,10 @@ returns-3 c =
     let ran = opened .before .before .before .before in
     let a = ran .before .before .before .before .before .before .args in
     let told = ran-into ran (opened .running2 .given .1) in
-    (c .answer-of2 .ensures ∙ sym (ap runningAnswer (told .0)), (ran .run .ensures .1 .0 ∙ sym (told .1), sym (ap (λ one. totalsAfter one (a .totals .now)) (told .0))))
+    (c .answer-of2 .ensures ∙ sym (ap runningAnswer (told .0)), (ran .run-on .ensures .1 .0 ∙ sym (told .1), sym (ap (λ one. totalsAfter one (a .totals .now)) (told .0))))
 
-pub rehearsal-run-spec : {M : Type 1} → statement M
-rehearsal-run-spec =
+pub run-into-spec : {M : Type 1} → statement M
+run-into-spec =
     tie.close
     (tie.spec
     (λ c κs. search needs)

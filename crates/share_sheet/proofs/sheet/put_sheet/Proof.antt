@@ -11,7 +11,7 @@ use Rattle.number.specs.Number.{bytesPut, wordBytes}
 use Rattle.schedule.specs.Format.{wordsIn}
 use Rattle.schedule.specs.Run.{entriesOf, outcomesFrom}
 use Rattle.schedule.specs.Trace.{traceLength}
-use Rattle.schedule.proofs.Laws.Run.{fits-room, length-entriesUpTo, longest-fits, longest-put}
+use Rattle.schedule.proofs.Laws.Run.{fits-room, length-entriesUpTo, length-outcomesFrom, longest-fits, longest-put}
 use Rattle.share_sheet.specs.Filling.{PartiesFit, TraceOf}
 use Rattle.share_sheet.specs.Sheet.{shareOf}
 use Rattle.share_sheet.proofs.Laws.Given.{block-values-fit, given-once}
@@ -51,7 +51,7 @@ note-shares-requires c κs =
     let few-entries = start .pre .0 .1 in
     let values = block-values-fit (a .sizes) es (a .count) (start .pre .0 .0) (fit start .enough) (short start) (fit start .right) (few start) in
     let room : traceLength n ≤ length zeros = fits-room n (length zeros) (longest-fits n few-entries) in
-    let trace = ran .obey-entries .ensures .1 ∙ longest-put ffThe (a .sizes) (a .kinds .now) operands few-entries in
+    let trace = ran .obey-entries .ensures .1 ∙ longest-put os (omega (arith, length-outcomesFrom ffThe (a .sizes) (a .kinds .now) operands, few-entries)) in
     let once = given-once (a .sizes) es (a .count) (start .pre .0 .0) (fit start .enough) (short start) (fit start .right) in (
       (refl, refl, few-entries),
       (subst (TraceOf n os) (sym trace) (trace-of (a .sizes) (a .kinds .now) operands zeros values room), (parties-small start, given-wider (a .count) 255 os (few start) once)),

@@ -1,5 +1,5 @@
 -- `share_sheet` meets its contract: what the reading is decides first, then the checks behind it, and only then is anything written.
-use mathlib.Core.Path.{_≡_, ap, subst, sym, _∙_}
+use mathlib.Core.Path.{_≡_, ap, sym, _∙_}
 use native.Mathlib.Omega.{arith}
 use borrow.Author.Needs.{needs}
 use lib.ListN.{length}
@@ -7,9 +7,9 @@ use Rattle.machine.specs.Linearizable.{ffThe}
 use Rattle.terms.proofs.Laws.Tests.{known}
 use Rattle.number.specs.Number.{overwritten}
 use Rattle.schedule.specs.Check.{first}
-use Rattle.schedule.specs.Reader.{kindPart, readFile, refusalOf}
+use Rattle.schedule.specs.Reader.{readFile, refusalOf}
 use Rattle.schedule.specs.Run.{outcomesIn, scheduleIn}
-use Rattle.schedule.proofs.Laws.Run.{PartsOf, parts-obeyed}
+use Rattle.schedule.proofs.Laws.Run.{PartsOf, parts-obeyed, parts-outcomes}
 use Rattle.share_sheet.specs.Types.{Accepted}
 use Rattle.share_sheet.specs.declared.sheet.Sheet.the-variants as sheet
 use Rattle.share_sheet.specs.Sheet.{bufferIf, checksAfterReading, makeSheet, answerBy, sheetOf}
@@ -37,14 +37,10 @@ accepted c = let opened = c .before .before .before .before in known (opened .be
 parts : (c : tie.After-check-sheet)
     → let opened = c .before .before .before .before in
     let a = opened .before .before .before .before .before .args in
-    PartsOf ffThe (a .file .now) (opened .reading .given .0 .0) (c .before .before .kind-part .result .now) (c .before .operand-part .result .now) (opened .reading .given .0 .1 .0)
+    PartsOf (a .file .now) (opened .reading .given .0 .0) (c .before .before .kind-part .result .now) (c .before .operand-part .result .now) (opened .reading .given .0 .1 .0)
 parts c =
-    let opened = c .before .before .before .before in
-    let a = opened .before .before .before .before .before .args in
-    let s = opened .reading .given .0 .0 in
-    let n = opened .reading .given .0 .1 .0 in
-    subst (λ l. PartsOf ffThe (a .file .now) s l (c .before .operand-part .result .now) n) (sym (c .before .before .kind-part .ensures .0))
-    (subst (λ l. PartsOf ffThe (a .file .now) s (kindPart (a .file .now) (Accepted s n)) l n) (sym (c .before .operand-part .ensures .0)) (parts-obeyed ffThe (a .file .now) s n (accepted c)))
+    let a = c .before .before .before .before .before .before .before .before .before .args in
+    parts-obeyed (a .file .now) (accepted c) (c .before .before .kind-part .ensures .0) (c .before .operand-part .ensures .0)
 
 -- what the checks behind found decides
 decided : (c : tie.After-check-sheet)
@@ -79,7 +75,7 @@ returns-3 c =
     let written = decided checked ∙ ap (answerBy (a .count)) (put .before .before .enum-told2 .given .1) in
     sheet-promises (a .file .now) (a .count) (a .sheet .now) _ _ (sym written)
     (put .put-sheet .ensures
-    ∙ (λ i. overwritten 0 (sheetOf (a .count) (parts checked .entries i) (parts checked .outcomes i)) (a .sheet .now))
+    ∙ (λ i. overwritten 0 (sheetOf (a .count) (parts checked .entries i) (parts-outcomes ffThe (parts checked) i)) (a .sheet .now))
     ∙ sym (ap (bufferIf (sheetOf (a .count) (scheduleIn (a .file .now)) (outcomesIn (a .file .now))) (a .sheet .now)) written))
 
 pub share-sheet-spec : {M : Type 1} → statement M
