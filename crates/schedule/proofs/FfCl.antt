@@ -19,9 +19,6 @@ use Rattle.cas.proofs.Linearizable.Theorem.{demand3}
 use Rattle.properties.proofs.CasRenumbering.{cas-blind-to-numbers}
 use Rattle.properties.proofs.FfCl.{cas-hidden-within-needed, cas-none-lost-or-given-twice}
 use Rattle.schedule.specs.Types.{Entry, Sizes, ThiefStep}
-use Rattle.cas.proofs.Linearizable.Theorem.{demand3}
-use Rattle.properties.proofs.CasRenumbering.{cas-blind-to-numbers}
-use Rattle.properties.proofs.FfCl.{cas-hidden-within-needed, cas-none-lost-or-given-twice}
 use Rattle.schedule.proofs.Laws.Proved.{Proved}
 
 -- where no entry is allowed, there is no such thief: a machine in range has at most eight

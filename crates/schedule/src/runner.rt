@@ -199,7 +199,13 @@ fn cas_obey_from(machine: cas::Machine, kinds: &[u8], operands: &[u8], trace: &m
 }
 
 // Obeys the entries of the two parts of a file as `obey_entries` does, on the queue that is named.
-pub fn obey_entries_on(queue: Queue, sizes: Sizes, kinds: &[u8], operands: &[u8], trace: &mut [u8]) -> Summary
+pub fn obey_entries_on(
+    queue: Queue,
+    sizes: Sizes,
+    kinds: &[u8],
+    operands: &[u8],
+    trace: &mut [u8],
+) -> Summary
     ensures { λ r. ⌜ r ≡ summaryFromOn queue sizes (now (kinds .entry)) (wordsIn (now (operands .entry))) ⌝ }
     ensures { λ _. ⌜ now (trace .exit) ≡ tracePut (outcomesFromOn queue sizes (now (kinds .entry)) (wordsIn (now (operands .entry)))) (now (trace .entry)) ⌝ }
 {

@@ -3,7 +3,6 @@ use mathlib.Core.Path.{_≡_, refl, ap, sym, _∙_}
 use mathlib.Core.Bool.{Bool, cond, _&&_}
 use native.Mathlib.Omega.{arith}
 use borrow.Author.Needs.{needs}
-use lib.ListN.{length}
 use Rattle.terms.proofs.Laws.Tests.{known}
 use Rattle.comparison.specs.Types.{Accepted, Alike, FirstRefused, NotAlike, SecondRefused}
 use Rattle.comparison.specs.Alike.{LikenessRefuses, likeness, likenessOf, sameAnswers}
