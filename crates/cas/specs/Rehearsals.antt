@@ -358,7 +358,7 @@ hiddenRows =
     hiding (fresh enough) takesNothing (0 ∷ 1 ∷ 1 ∷ 1 ∷ [])
     ∷ hiding (fresh (sized 4 4 0 4 1 0)) (puts 1 ++ takeLooks ++ workerMoves 1) (0 ∷ 0 ∷ 0 ∷ 0 ∷ 0 ∷ 1 ∷ 1 ∷ 1 ∷ [])
     ∷ hiding (fresh (sized 4 8 0 8 1 0)) (puts 1 ++ puts 2 ++ puts 3 ++ takes 3 ++ takes 2 ++ drains 6 ++ drains 2)
-        (replicate 13 0 ++ (1 ∷ 1 ∷ 1 ∷ 1 ∷ 2 ∷ 2 ∷ 2 ∷ 2 ∷ 2 ∷ 2 ∷ 2 ∷ 2 ∷ 2 ∷ 1 ∷ 0 ∷ []))
+    (replicate 13 0 ++ (1 ∷ 1 ∷ 1 ∷ 1 ∷ 2 ∷ 2 ∷ 2 ∷ 2 ∷ 2 ∷ 2 ∷ 2 ∷ 2 ∷ 2 ∷ 1 ∷ 0 ∷ []))
     ∷ []
 
 -- ── The table ───────────────────────────────────────────────────────────────────────────────────────────────────────────────
