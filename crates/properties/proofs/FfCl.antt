@@ -2,10 +2,13 @@
 use mathlib.Core.Path.{_≡_, refl}
 use mathlib.Core.Bool.{true}
 use Prim.Native.Nat.{ℕ}
+use Rattle.terms.specs.Lists.{all}
+use Rattle.stores.specs.Look.{memoryInRange}
 use Rattle.claim.specs.Calls.{Begun, nothing, aPut, aTake, aSteal, Party, worker, thief}
 use Rattle.claim.proofs.Stored.{StoresAtOnce, storedTimes}
 use Rattle.cas.specs.Machine.{hidden, inRange, takesPending, workerLoad}
 use Rattle.cas.specs.Linearizable.{ffCl, owes, toldOfAllButEmptySteals, workerOwes}
+use Rattle.cas.specs.Rehearsals.{looks}
 use Rattle.cas.proofs.Laws.Hidden.{hidden-known, hidden-pending}
 use Rattle.cas.proofs.Laws.Obey.{ffCl-lawful, hands-on-hidden}
 use Rattle.cas.proofs.Linearizable.AnyMargin.{run-in-range, take-stores-within-needed}
@@ -13,7 +16,7 @@ use Rattle.cas.proofs.Linearizable.Theorem.{fresh-run, invariant-shows, run-sta
 use Rattle.properties.specs.Types.{Index, Stored}
 use Rattle.properties.specs.CasTypes.{Machine, WorkerCall, PutLoadHead, PutStoreSlot, PutStoreTail, TakeStoreTail, TakeLoadHead, TakeLoadSlot, TakeTailToHead, TakeTailPastHead, TakeSwapHead, TakeLoadLastSlot}
 use Rattle.properties.specs.ExactlyOnce.{AccountedByNumber, NoneLostOrGivenTwice}
-use Rattle.properties.specs.Hidden.{HiddenIsPending, HiddenWithinNeeded}
+use Rattle.properties.specs.Hidden.{HiddenIsPending, HiddenWithinNeeded, reaches, reaching}
 use Rattle.properties.proofs.Laws.ExactlyOnce.{accounted, exactly-once}
 use Rattle.properties.proofs.Laws.Hidden.{is-pending, within-needed}
 use Rattle.properties.proofs.CasRenumbering.{cas-blind-to-numbers}
@@ -25,6 +28,11 @@ cas-hidden-within-needed = within-needed ffCl hidden hands-on-hidden takesPendin
 
 pub cas-hidden-is-pending : HiddenIsPending ffCl takesPending
 cas-hidden-is-pending = is-pending ffCl hidden hands-on-hidden takesPending inRange hidden-known run-in-range
+
+-- the sizes of the table reach it
+pub cas-bound-reached : all (reaches ffCl looks) reaching ≡ true
+unfolding inRange memoryInRange
+cas-bound-reached = refl
 
 -- ── Exactly once ────────────────────────────────────────────────────────────────────────────────────────────────────────────
 

@@ -6,6 +6,7 @@ use Rattle.stores.specs.Look.{memoryInRange}
 use Rattle.machine.specs.InRange.{inRange}
 use Rattle.machine.specs.Linearizable.{ffThe}
 use Rattle.machine.specs.Machine.{hidden, takesPending}
+use Rattle.machine.specs.Stories.{looks}
 use Rattle.machine.proofs.Laws.Hidden.{hidden-known, hidden-pending}
 use Rattle.machine.proofs.Laws.Obey.{hands-on-hidden}
 use Rattle.machine.proofs.Linearizable.AnyMargin.{run-in-range, run-take-stores}
@@ -19,6 +20,6 @@ pub hidden-is-pending : HiddenIsPending ffThe takesPending
 hidden-is-pending = is-pending ffThe hidden hands-on-hidden takesPending inRange hidden-known run-in-range
 
 -- the sizes of the table reach it
-pub bound-reached : all reaches reaching ≡ true
+pub bound-reached : all (reaches ffThe looks) reaching ≡ true
 unfolding inRange memoryInRange
 bound-reached = refl

@@ -1,10 +1,10 @@
 pub mod Laws
 pub mod Renumbering
-pub mod CasRenumbering
 pub mod ExactlyOnce
 pub mod Accounts
+pub mod Hidden
+pub mod CasRenumbering
+pub mod FfCl
 pub mod CallLength
 pub mod TakesApart
-pub mod Hidden
 pub mod TakeStores
-pub mod FfCl

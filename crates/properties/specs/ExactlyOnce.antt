@@ -89,11 +89,11 @@ pub record ExactlyOnce {M : Type 0} (b : Implementation M Entry) (s : Sizes) (es
   -- .. and no number stands in it twice
   pub once : (k : ℕ) → occurrences k (stored b s (numberedApart es)) ≤ 1
 
--- Of the lists that demand 3 speaks of. Each prefix of a list is a list, so it is true at every moment. Proved in `proofs/ExactlyOnce.antt`.
+-- Of the lists that demand 3 speaks of. Each prefix of a list is a list, so it is true at every moment. Proved of FF-THE in `proofs/ExactlyOnce.antt`, of FF-CL in `proofs/FfCl.antt`.
 abbrev pub NoneLostOrGivenTwice : {M : Type 0} → Implementation M Entry → Type 0
 NoneLostOrGivenTwice b = (s : Sizes) (es : List Entry) → sizesInRange s ≡ true → enoughMargin s ≡ true → length es ≤ 4096 → ExactlyOnce b s es
 
--- The same account in a list's own numbers, each as often. They tell its puts apart only where no two puts have one number, as in a schedule of which a share sheet is made (02's request 2). Proved in `proofs/ExactlyOnce.antt`.
+-- The same account in a list's own numbers, each as often. They tell its puts apart only where no two puts have one number, as in a schedule of which a share sheet is made (02's request 2). Proved in the same files.
 abbrev pub AccountedByNumber : {M : Type 0} → Implementation M Entry → Type 0
 AccountedByNumber b =
     (s : Sizes) (es : List Entry) → sizesInRange s ≡ true → enoughMargin s ≡ true → length es ≤ 4096

@@ -1,4 +1,4 @@
--- How far memory lags behind the worker. Renders, of request 4 in 02, what the number is and its last sentence. Proved in `proofs/Hidden.antt`.
+-- How far memory lags behind the worker. Renders, of request 4 in 02, what the number is and its last sentence. Proved of FF-THE in `proofs/Hidden.antt`, of FF-CL in `proofs/FfCl.antt`.
 use mathlib.Core.Path.{_≡_}
 use mathlib.Core.Bool.{Bool, true, _&&_}
 use mathlib.Core.List.{List, [], _∷_, _++_}
@@ -10,10 +10,7 @@ use Rattle.terms.specs.Sizes.{neededMargin, sized, sizesInRange}
 use Rattle.claim.specs.Implementation.{Implementation}
 use Rattle.claim.specs.Run.{hiddenOf, machineAfter}
 use Rattle.claim.specs.Watch.{watchFresh}
-use Rattle.machine.specs.Linearizable.{ffThe}
-use Rattle.machine.specs.Stories.{looks}
-use Rattle.machine.specs.Machine.{fresh}
-use Rattle.claim.specs.Stories.{Line, comesTrue, does, entriesIn, filled, undrainedTakes, workerMoves}
+use Rattle.claim.specs.Stories.{Line, Looks, comesTrue, does, drains, entriesIn, filled, puts, undrainedTakes, workerMoves}
 use Rattle.properties.specs.Types.{BeginTake, Entry, Moved, Sizes}
 
 -- after any entry of any list the number is at most the needed margin, whichever margin is set
@@ -34,15 +31,15 @@ HiddenIsPending b takesPending =
 pub data Row : Type 0 where
   row : Sizes → List Line → Row
 
--- the run is as the story says, and the largest number of its entries is the needed margin
-abbrev pub reaches : Row → Bool
-reaches (row s l) = comesTrue ffThe looks (watchFresh ffThe s) l && eqb (largest (hiddenOf ffThe (fresh s) (entriesIn l))) (neededMargin (s .buffer) (s .spacing))
+-- a queue's run is as the story says, and the largest number of its entries is the needed margin
+abbrev pub reaches : {M : Type 0} → Implementation M Entry → Looks M → Row → Bool
+reaches b looks (row s l) = comesTrue b looks (watchFresh b s) l && eqb (largest (hiddenOf b (b .fresh s) (entriesIn l))) (neededMargin (s .buffer) (s .spacing))
 
--- so many takes undrained, with so many client stores between each two
+-- so many takes undrained, with so many client stores between each two; a task stays below them, since FF-CL's take of the last one waits for its stores
 abbrev pub lagging : ℕ → ℕ → List Line
-lagging n apart = filled n ++ undrainedTakes n apart
+lagging n apart = puts 0 ++ drains 2 ++ filled n ++ undrainedTakes n apart
 
--- Margins that are short, the needed one, and more; buffers that spacing + 1 divides, and others. With a buffer of 1, where a put waits for its own store, a take of nothing does it.
+-- Margins that are short, the needed one, and more; buffers that spacing + 1 divides, and others. With a buffer of 1, where a put waits for its own store, a take of nothing does it. Both queues reach it in every row.
 abbrev pub reaching : List Row
 reaching =
     row (sized 4 1 0 1 1 0) (does BeginTake Moved ∷ workerMoves 1)

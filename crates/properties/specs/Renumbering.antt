@@ -30,6 +30,7 @@ renumberOutcome f Abort = Abort
 renumberOutcome f Full = Full
 renumberOutcome f End = End
 
+-- Proved of FF-THE in `proofs/Renumbering.antt`, of FF-CL in `proofs/CasRenumbering.antt`.
 abbrev pub BlindToNumbers : {M : Type 0} → Implementation M Entry → Type 0
 BlindToNumbers b =
     (f : ℕ → ℕ)
