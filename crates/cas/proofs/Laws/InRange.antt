@@ -2,46 +2,31 @@
 use mathlib.Core.Path.{_≡_, refl, ap, sym, _∙_}
 use mathlib.Core.Bool.{Bool, true, false, and-false, _&&_}
 use Prim.Native.Nat.{ℕ, _≤_, _<_}
-use native.Mathlib.Omega.{arith}
 use lib.Dec.{leb, ltb}
 use lib.ListN.{length}
-use borrow.Author.Tests.{ltb-true}
 use Rattle.terms.specs.Lists.{all}
 use Rattle.terms.specs.Sizes.{sizesInRange}
-use Rattle.terms.proofs.Laws.Lists.{&&-true, all-getD, all-set}
+use Rattle.terms.proofs.Laws.Lists.{&&-true, all-set}
 use Rattle.terms.proofs.Laws.Tests.{and-left, and-right}
 use Rattle.stores.specs.Index.{indexInRange}
 use Rattle.stores.specs.Look.{memoryInRange}
 use Rattle.stores.specs.Spacing.{spacingInRange}
 use Rattle.stores.specs.StoreBuffer.{pending, pushInRange, pushedIn, storeInRange}
-use Rattle.stores.proofs.Laws.Look.{MemoryBounds, drained-memory, headed-memory, memory-bounds, stored-memory}
+use Rattle.stores.proofs.Laws.Look.{MachineBounds, drained-memory, headed-memory, machine-bounds, stored-memory, thief-call-ranged, thief-within}
 use Rattle.stores.proofs.Laws.StoreBuffer.{pushFits}
 use Rattle.cas.specs.Types.{Index, Machine, Push, Spacing, ThiefCall, WorkerCall}
 use Rattle.cas.specs.Worker.{workerInRange}
 use Rattle.cas.specs.Thief.{idleThief, thiefInRange}
-use Rattle.cas.specs.Machine.{callsInRange, inRange, thiefCall, withBuffer, withHead, withSpacing, withThief, withWorker}
+use Rattle.cas.specs.Machine.{inRange, thiefCall, withBuffer, withHead, withSpacing, withThief, withWorker}
 use Rattle.cas.specs.Entries.{drained}
 
 -- What is so of a machine in range.
-pub record Bounds (m : Machine) : Type 0 where
-  pub memory : MemoryBounds (m .sizes) (m .head) (m .tail) (m .buffer) (m .spacing)
-  pub calls : callsInRange m ≡ true
-  pub worker : workerInRange (m .worker .call) ≡ true
-  pub thieves : all (λ t. thiefInRange (t .call)) (m .thieves) ≡ true
+abbrev pub Bounds : Machine → Type 0
+Bounds m = MachineBounds (λ t. thiefInRange (t .call)) (m .sizes) (m .head) (m .tail) (m .buffer) (m .spacing) (workerInRange (m .worker .call)) (m .thieves)
 
 pub bounds : (m : Machine) → inRange m ≡ true → Bounds m
 unfolding inRange
-bounds m p =
-    let memory = memoryInRange (m .sizes) (m .head) (m .tail) (m .buffer) (m .spacing) in
-    let worker = workerInRange (m .worker .call) in
-    let thieves = all (λ t. thiefInRange (t .call)) (m .thieves) in
-    let calls = and-right memory (callsInRange m) p in
-    record {
-      memory = memory-bounds (m .sizes) (m .head) (m .tail) (m .buffer) (m .spacing) (and-left memory (callsInRange m) p);
-      calls = calls;
-      worker = and-left worker thieves calls;
-      thieves = and-right worker thieves calls;
-    }
+bounds m ready = machine-bounds ready
 
 -- what a thief's entry tests first: the machine is in range, and the thief is there. Then it has a cell in the array, and its call is in range
 pub record ThiefReady (m : Machine) (i : ℕ) : Type 0 where
@@ -52,10 +37,8 @@ pub record ThiefReady (m : Machine) (i : ℕ) : Type 0 where
 pub thief-ready : (m : Machine) (i : ℕ) → (inRange m && ltb i (m .sizes .thieves)) ≡ true → ThiefReady m i
 thief-ready m i p =
     let ready = and-left (inRange m) (ltb i (m .sizes .thieves)) p in
-    let there = ltb-true i (m .sizes .thieves) (and-right (inRange m) (ltb i (m .sizes .thieves)) p) in
-    let b = bounds m ready in
-    let most = b .memory .sizes .thieves-most in
-    record { ready = ready; below = omega arith; call = all-getD (λ t. thiefInRange (t .call)) (m .thieves) i idleThief refl (b .thieves) }
+    let k = bounds m ready in
+    record { ready = ready; below = thief-within k i (and-right (inRange m) (ltb i (m .sizes .thieves)) p); call = thief-call-ranged k i idleThief refl }
 
 -- ── After an entry: what it changes decides whether the machine is still in range ───────────────────────────────────────────
 

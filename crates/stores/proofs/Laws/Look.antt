@@ -1,14 +1,15 @@
 -- A machine's parts in range: what is known of them then, whether they are after an entry, and how many stores of take step 1 are pending then, by what the look before it found. They hold for any queue: each machine cites them.
 use mathlib.Core.Path.{_≡_, refl, ap, sym, _∙_}
 use mathlib.Core.Bool.{Bool, true, false, cond, _&&_}
+use mathlib.Core.List.{List}
 use Prim.Native.Nat.{ℕ, _+_, _-_, _≤_, _<_}
 use native.Mathlib.Omega.{arith}
 use lib.Dec.{leb, ltb}
-use lib.ListN.{length, length-take}
-use borrow.Author.Tests.{le-leb, leb-true, lt-ltb}
+use lib.ListN.{getD, length, length-take}
+use borrow.Author.Tests.{le-leb, leb-true, lt-ltb, ltb-true}
 use Rattle.terms.specs.Lists.{all}
 use Rattle.terms.specs.Sizes.{sizesInRange}
-use Rattle.terms.proofs.Laws.Lists.{&&-true}
+use Rattle.terms.proofs.Laws.Lists.{&&-true, all-getD}
 use Rattle.terms.proofs.Laws.Sizes.{SizeBounds, sizes-bounds}
 use Rattle.terms.proofs.Laws.Tests.{and-left, and-right}
 use Rattle.stores.specs.Types.{Index, Look, Nothing, One, Push, Sizes, Spacing, StoreBuffer}
@@ -54,6 +55,33 @@ memory-bounds z h t b p ready =
       tail = and-right headed (indexInRange t) p4;
       stores = and-right tailed stores-fit ready;
     }
+
+-- What is so of a machine in range, whose parts these are: of them, of the worker's call, and of the thieves with theirs.
+pub record MachineBounds {T : Type 0} (thiefRanged : T → Bool) (z : Sizes) (h t : Index) (b : StoreBuffer) (p : Spacing) (workerRanged : Bool) (ts : List T) : Type 0 where
+  pub memory : MemoryBounds z h t b p
+  pub calls : (workerRanged && all thiefRanged ts) ≡ true
+  pub worker : workerRanged ≡ true
+  pub thieves : all thiefRanged ts ≡ true
+
+module _ {T : Type 0} {thiefRanged : T → Bool} {z : Sizes} {h t : Index} {b : StoreBuffer} {p : Spacing} {workerRanged : Bool} {ts : List T} where
+  pub machine-bounds : (memoryInRange z h t b p && (workerRanged && all thiefRanged ts)) ≡ true → MachineBounds thiefRanged z h t b p workerRanged ts
+  machine-bounds ready =
+      let memory = memoryInRange z h t b p in
+      let thieves = all thiefRanged ts in
+      let calls = and-right memory (workerRanged && thieves) ready in
+      record {
+        memory = memory-bounds z h t b p (and-left memory (workerRanged && thieves) ready);
+        calls = calls;
+        worker = and-left workerRanged thieves calls;
+        thieves = and-right workerRanged thieves calls;
+      }
+
+  -- a thief that is there has a cell in the array, and its call is in range
+  pub thief-within : (k : MachineBounds thiefRanged z h t b p workerRanged ts) (i : ℕ) → ltb i (z .thieves) ≡ true → i < 8
+  thief-within k i there = omega (arith, ltb-true i (z .thieves) there, k .memory .sizes .thieves-most)
+
+  pub thief-call-ranged : (k : MachineBounds thiefRanged z h t b p workerRanged ts) (i : ℕ) (idle : T) → thiefRanged idle ≡ true → thiefRanged (getD ts i idle) ≡ true
+  thief-call-ranged k i idle ranged = all-getD thiefRanged ts i idle ranged (k .thieves)
 
 -- what a look at them finds
 abbrev pub found : Index → StoreBuffer → Look
