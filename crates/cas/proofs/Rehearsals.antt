@@ -8,7 +8,8 @@ use Rattle.claim.specs.Watch.{events, watchFresh}
 use Rattle.stores.specs.Look.{memoryInRange}
 use Rattle.cas.specs.Machine.{inRange}
 use Rattle.cas.specs.Linearizable.{ffCl, limits}
-use Rattle.cas.specs.Rehearsals.{GivenTwiceViolates, everyNumberShown, givenTwice, limitsAtTheirEdges, oneShort, rowHolds, rows}
+use Rattle.cas.specs.Stories.{oneShort, rowHolds}
+use Rattle.cas.specs.Rehearsals.{GivenTwiceViolates, everyNumberShown, givenTwice, limitsAtTheirEdges, rows}
 
 pub rows-hold : all rowHolds rows ≡ true
 unfolding inRange memoryInRange

@@ -11,7 +11,7 @@
 -- an entry as a move, for the code       Moves
 -- the plain queue, and the claim         of `claim`
 -- effects, and demand 3                  Linearizable
--- what each step shows, in rows          Rehearsals
+-- what each step shows, in rows          Stories (their words), Handed, Rehearsals
 pub mod Types
 pub mod Worker
 pub mod Thief
@@ -19,4 +19,6 @@ pub mod Machine
 pub mod Entries
 pub mod Moves
 pub mod Linearizable
+pub mod Stories
+pub mod Handed
 pub mod Rehearsals

@@ -1,72 +1,22 @@
 -- What each step of the compare-and-swap queue shows, as one table over the definitions: each answer of each call, the thief that starts over, two thieves that have loaded one head, the take that loses its swap, both ways to put the tail back, what waits and
--- what does not, the limits, the margin and one less, and machines at the edge of their range. `proofs/Rehearsals.antt` proves one fact: every row holds; and that the run whose margin is one short violates the claim.
+-- what does not, the limits, the margin and one less, and machines that are handed in (`Handed`). `proofs/Rehearsals.antt` proves one fact: every row holds; and that the run whose margin is one short violates the claim.
 use mathlib.Core.Bool.{Bool, true, false, not}
 use mathlib.Core.List.{List, [], _∷_, _++_, map}
 use Prim.Native.Nat.{ℕ}
-use lib.Dec.{eqb, ltb}
-use lib.IntN.{ℤ, pos, negsuc}
-use lib.ListN.{getD, replicate}
+use lib.Dec.{ltb}
+use lib.IntN.{pos, negsuc}
+use lib.ListN.{replicate}
 use Rattle.terms.specs.Sizes.{sized}
 use Rattle.terms.specs.Lists.{all, concatMap, occurrences}
 use Rattle.claim.specs.PlainQueue.{PlainQueue, toldPut, withinLimits}
 use Rattle.claim.specs.Calls.{worker}
 use Rattle.claim.specs.Linearizable.{Linearizable}
-use Rattle.claim.specs.Stories.{Line, Looks, Row, story, handed, hiding, brink, beyond, does, headIs, tailIs, slotIs, countIs, tasksStand, standing, owed, tells, clientStores, drains, entriesIn, filled, holds, numbersIn, putEnds, puts, takes, thiefGets, thiefMoves, workerGets, workerMoves}
-use Rattle.stores.specs.Index.{eqZ}
-use Rattle.stores.specs.StoreBuffer.{emptyBuffer, push, slotStore, tailStore}
-use Rattle.cas.specs.Types.{Drain, ClientStore, BeginPut, BeginTake, WorkerStep, BeginSteal, ThiefStep, Index, Machine, Outcome, Moved, Place, Early, Wait, Stored, Task, Empty, Abort, Full, End, Sizes, StealLoadTail, StealLoadSlot, StealSwapHead, TakeLoadHead, TakeLoadSlot, TakeTailToHead, TakeTailPastHead, TakeSwapHead, TakeLoadLastSlot, TakeStoreTail, PutStoreTail}
-use Rattle.cas.specs.Machine.{fresh, inRange, withBuffer, withHead, withMemory, withSpacing, withThief, withWorker}
+use Rattle.claim.specs.Stories.{Line, Row, story, hiding, beyond, does, headIs, tailIs, slotIs, countIs, tasksStand, standing, owed, tells, clientStores, drains, entriesIn, filled, numbersIn, putEnds, puts, takes, thiefGets, thiefMoves, workerGets, workerMoves}
+use Rattle.cas.specs.Types.{Drain, ClientStore, BeginPut, BeginTake, WorkerStep, BeginSteal, ThiefStep, Machine, Moved, Place, Early, Wait, Stored, Task, Empty, Abort, Full, End}
+use Rattle.cas.specs.Machine.{fresh}
 use Rattle.cas.specs.Linearizable.{ffCl, limits}
-
-abbrev pub looks : Looks Machine
-looks =
-    record {
-      headIs = λ m z. eqZ (m .head .at) z;
-      tailIs = λ m z. eqZ (m .tail .at) z;
-      slotIs = λ m k x. eqb (getD (m .slots) k 0) x;
-      countIs = λ m n. eqb (m .spacing .count) n;
-      inRange = inRange;
-    }
-
-abbrev pub rowHolds : Row Machine → Bool
-rowHolds r = holds ffCl looks r
-
--- ── Words ───────────────────────────────────────────────────────────────────────────────────────────────────────────────────
-
--- a step of the thief with this number, with its outcome
-abbrev pub steps : ℕ → Outcome → List Line
-steps i o = does (ThiefStep i) o ∷ []
-
-abbrev pub begins : ℕ → List Line
-begins i = does (BeginSteal i) Moved ∷ []
-
--- a whole steal of thief 0 that ends at its load of the tail, and one that ends at its swap
-abbrev pub stealEnds : Outcome → List Line
-stealEnds o = begins 0 ++ thiefMoves 1 ++ thiefGets o
-
-abbrev pub steals : ℕ → List Line
-steals x = begins 0 ++ thiefMoves 3 ++ thiefGets (Task x)
-
--- a take that has loaded head
-abbrev pub takeLooks : List Line
-takeLooks = does BeginTake Moved ∷ workerMoves 2
-
--- a whole take of the last task, drained before its swap
-abbrev pub takesLast : ℕ → List Line
-takesLast x = takeLooks ++ workerMoves 1 ++ drains 2 ++ workerMoves 1 ++ workerGets (Task x)
-
--- a whole take from an empty queue
-abbrev pub takesNothing : List Line
-takesNothing = takeLooks ++ workerGets Empty
-
--- ── Sizes ───────────────────────────────────────────────────────────────────────────────────────────────────────────────────
-
--- a buffer of 2 without spacing needs a margin of 2
-abbrev pub enough : Sizes
-enough = sized 4 2 0 2 2 0
-
-abbrev pub oneShort : Sizes
-oneShort = sized 4 2 0 1 2 0
+use Rattle.cas.specs.Stories.{begins, enough, oneShort, stealEnds, steals, steps, takeLooks, takesLast, takesNothing}
+use Rattle.cas.specs.Handed.{brinks, handedRows, outOfRange}
 
 -- ── Each call, and its answers ──────────────────────────────────────────────────────────────────────────────────────────────
 
@@ -244,111 +194,6 @@ givenTwice = twoTakesThenSteal ++ steals 2
 -- .. and that run violates the claim. Proved in `proofs/Rehearsals.antt`.
 abbrev pub GivenTwiceViolates : Type 0
 GivenTwiceViolates = Linearizable ffCl oneShort (entriesIn givenTwice) → ⊥
-
--- ── Machines handed in ──────────────────────────────────────────────────────────────────────────────────────────────────────
-
-abbrev pub index : ℤ → Index
-index z = record { at = z }
-
-abbrev pub greatest : Index
-greatest = index (pos 2147483648)
-
--- the fresh machine with head and memory's tail at these indices
-abbrev pub between : Index → Index → Machine
-between h t = withHead h (withMemory (fresh enough .slots) t emptyBuffer (fresh enough))
-
--- a take below head stores the head that it has loaded, whatever the tail is
-abbrev pub tailToHead : Row Machine
-tailToHead = handed (withWorker (TakeTailToHead (index (pos 7))) (between (index (pos 9)) (index (pos 3)))) (workerGets Empty ++ drains 1 ++ tailIs (pos 7) ∷ headIs (pos 9) ∷ [])
-
--- one at head stores the index past it, and swaps head there
-abbrev pub tailPastHead : Row Machine
-tailPastHead = handed (withWorker (TakeTailPastHead (index (pos 7))) (between (index (pos 7)) (index (pos 3)))) (workerMoves 1 ++ drains 1 ++ tailIs (pos 8) ∷ workerMoves 1 ++ headIs (pos 8) ∷ [])
-
--- a swap compares head with what was loaded, be it above or below, of the worker's ..
-abbrev pub takeSwaps : ℤ → Machine
-takeSwaps z = withWorker (TakeSwapHead (index (pos 7))) (between (index z) (index (pos 8)))
-
--- .. and of a thief's, which waits for no pending store
-abbrev pub stealSwaps : ℤ → Machine
-stealSwaps z = withBuffer (push (tailStore (index (pos 2))) emptyBuffer) (withThief 0 (StealSwapHead 5 (index (pos 7))) (between (index z) (index (pos 9))))
-
--- a swap that is going to be lost waits for the pending stores too
-abbrev pub lostSwapWaits : Row Machine
-lostSwapWaits = handed (withBuffer (push (tailStore (index (pos 8))) emptyBuffer) (takeSwaps (pos 9))) (workerGets Wait ++ drains 1 ++ workerGets Empty ++ headIs (pos 9) ∷ [])
-
--- END is at the greatest tail alone, which 01's test names
-abbrev pub pastTheEnd : Row Machine
-pastTheEnd = handed (between greatest greatest) (does (BeginPut 5) Moved ∷ workerMoves 1)
-
--- -1 is in range for an index that is stored or swapped, and the greatest for every one
-abbrev pub edgesInRange : List (Row Machine)
-edgesInRange =
-    handed (withWorker (TakeTailToHead (index (negsuc 0))) (between (index (pos 0)) (index (pos 3)))) (workerGets Empty ++ drains 1 ++ tailIs (negsuc 0) ∷ [])
-    ∷ handed (withWorker (TakeTailPastHead (index (negsuc 0))) (between (index (negsuc 0)) (index (pos 3)))) (workerMoves 1 ++ drains 1 ++ tailIs (pos 0) ∷ [])
-    ∷ handed (withThief 0 (StealSwapHead 5 (index (negsuc 0))) (between (index (negsuc 0)) (index (pos 9)))) (thiefGets (Task 5) ++ headIs (pos 0) ∷ [])
-    ∷ handed (withWorker (TakeLoadSlot greatest) (fresh enough)) (workerGets (Task 0))
-    ∷ handed (withThief 0 (StealLoadSlot greatest) (fresh enough)) (thiefMoves 1)
-    ∷ []
-
--- a thief loads memory's slot, whatever is pending
-abbrev pub loadsMemory : Row Machine
-loadsMemory =
-    handed (withBuffer (push (slotStore (index (pos 1)) 6) emptyBuffer) (withThief 0 (StealLoadSlot (index (pos 1))) (between (index (pos 1)) (index (pos 9)))))
-    (thiefMoves 1 ++ thiefGets (Task 0))
-
-abbrev pub handedRows : List (Row Machine)
-handedRows =
-    tailToHead
-    ∷ tailPastHead
-    ∷ handed (takeSwaps (pos 7)) (workerMoves 1 ++ headIs (pos 8) ∷ workerGets (Task 0))
-    ∷ handed (takeSwaps (pos 8)) (workerGets Empty ++ headIs (pos 8) ∷ [])
-    ∷ handed (takeSwaps (pos 6)) (workerGets Empty ++ headIs (pos 6) ∷ [])
-    ∷ handed (stealSwaps (pos 7)) (thiefGets (Task 5) ++ headIs (pos 8) ∷ [])
-    ∷ handed (stealSwaps (pos 8)) (thiefMoves 1 ++ headIs (pos 8) ∷ [])
-    ∷ handed (stealSwaps (pos 6)) (thiefMoves 1 ++ headIs (pos 6) ∷ [])
-    ∷ loadsMemory
-    ∷ lostSwapWaits
-    ∷ pastTheEnd
-    ∷ edgesInRange
-
--- a swap past the greatest index, a slot below 0 that is to be loaded next, and a tail stored out of range
-abbrev pub brinks : List (Row Machine)
-brinks =
-    brink (withWorker (TakeSwapHead greatest) (between greatest greatest)) WorkerStep Moved
-    ∷ brink (withWorker (TakeSwapHead (index (negsuc 0))) (between (index (negsuc 0)) (index (pos 0)))) WorkerStep Moved
-    ∷ brink (withWorker (TakeTailPastHead greatest) (between greatest greatest)) WorkerStep Moved
-    ∷ brink (withThief 0 (StealSwapHead 5 greatest) (between greatest greatest)) (ThiefStep 0) (Task 5)
-    ∷ brink (withThief 0 (StealLoadTail (index (negsuc 0))) (between (index (pos 0)) (index (pos 9)))) (ThiefStep 0) Moved
-    ∷ brink (withWorker PutStoreTail (between (index (pos 0)) greatest)) WorkerStep Stored
-    ∷ brink (withWorker TakeStoreTail (between (index (pos 0)) (index (negsuc 0)))) WorkerStep Moved
-    ∷ brink (withSpacing (record { count = 4096; begun = true }) (fresh enough)) ClientStore Moved
-    ∷ []
-
--- every index that a call holds is looked at, a slot's from 0 ..
-abbrev pub callsHolding : Index → Index → List Machine
-callsHolding i slot =
-    withWorker (TakeLoadHead i) (fresh enough)
-    ∷ withWorker (TakeLoadSlot slot) (fresh enough)
-    ∷ withWorker (TakeTailToHead i) (fresh enough)
-    ∷ withWorker (TakeTailPastHead i) (fresh enough)
-    ∷ withWorker (TakeSwapHead i) (fresh enough)
-    ∷ withWorker (TakeLoadLastSlot slot) (fresh enough)
-    ∷ withThief 7 (StealLoadTail i) (fresh enough)
-    ∷ withThief 7 (StealLoadSlot slot) (fresh enough)
-    ∷ withThief 7 (StealSwapHead 0 i) (fresh enough)
-    ∷ []
-
--- .. and so are head, tail, the sizes, how many stores are pending and each of them
-abbrev pub outOfRange : List Machine
-outOfRange =
-    withHead (index (negsuc 1)) (fresh enough)
-    ∷ between (index (pos 0)) (index (negsuc 1))
-    ∷ fresh (sized 1 2 0 2 1 0)
-    ∷ withBuffer (record { stores = emptyBuffer .stores; count = 3 }) (fresh enough)
-    ∷ withBuffer (push (slotStore (index (negsuc 0)) 6) emptyBuffer) (fresh enough)
-    ∷ callsHolding (index (negsuc 1)) (index (negsuc 0))
-    ++ callsHolding (index (pos 2147483649)) (index (pos 2147483649))
 
 -- ── How far memory lags ─────────────────────────────────────────────────────────────────────────────────────────────────────
 

@@ -8,7 +8,7 @@ use Rattle.claim.specs.Calls.{Begun, nothing, aPut, aTake, aSteal, Party, worke
 use Rattle.claim.proofs.Stored.{StoresAtOnce, storedTimes}
 use Rattle.cas.specs.Machine.{hidden, inRange, takesPending, workerLoad}
 use Rattle.cas.specs.Linearizable.{ffCl, owes, toldOfAllButEmptySteals, workerOwes}
-use Rattle.cas.specs.Rehearsals.{looks}
+use Rattle.cas.specs.Stories.{looks}
 use Rattle.cas.proofs.Laws.Hidden.{hidden-known, hidden-pending}
 use Rattle.cas.proofs.Laws.Obey.{ffCl-lawful, hands-on-hidden}
 use Rattle.cas.proofs.Linearizable.AnyMargin.{run-in-range, take-stores-within-needed}

@@ -10,7 +10,8 @@ use Rattle.claim.specs.Stories.{Line, does, drains, entriesIn, filled, puts, th
 use Rattle.machine.specs.Linearizable.{ffThe}
 use Rattle.machine.specs.Rehearsals.{m2, m2Sizes, m3, m3Sizes}
 use Rattle.cas.specs.Linearizable.{ffCl}
-use Rattle.cas.specs.Rehearsals.{begins, enough, givenTwice, oneShort, takeLooks}
+use Rattle.cas.specs.Stories.{begins, enough, oneShort, takeLooks}
+use Rattle.cas.specs.Rehearsals.{givenTwice}
 use Rattle.properties.specs.Types.{BeginSteal, BeginTake, Entry, Moved, Sizes}
 use Rattle.properties.specs.ExactlyOnce.{ExactlyOnce, given, held, numberedApart, standing, stored}
 
