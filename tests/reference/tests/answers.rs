@@ -5,10 +5,10 @@ mod common;
 use common::{file, Dice, SIZES};
 use reference::{alike, lines, lines_cas, run, run_cas, Sizes};
 
-#[test]
-fn the_example_prints_its_lines() {
-    let entries = [(2, 7), (4, 0), (4, 0), (4, 0), (0, 0), (4, 0)];
-    let expected = "\
+const EXAMPLE: [(u8, u32); 6] = [(2, 7), (4, 0), (4, 0), (4, 0), (0, 0), (4, 0)];
+
+/// What both programs print for the example, up to the end of the last line.
+const EXAMPLE_LINES: &str = "\
 4 1 0 1 1 0 enough
 0 0 0
 1 0 0
@@ -16,9 +16,14 @@ fn the_example_prints_its_lines() {
 3 7 0
 4 0 0
 5 16 0
-given 0 aborts 0 waits 1 hidden 0
-";
-    assert_eq!(lines(&file(SIZES, &entries)), expected);
+given 0 aborts 0 waits 1";
+
+#[test]
+fn the_example_prints_its_lines() {
+    assert_eq!(
+        lines(&file(SIZES, &EXAMPLE)),
+        format!("{EXAMPLE_LINES} hidden 0\n")
+    );
 }
 
 #[test]
@@ -96,18 +101,10 @@ fn an_empty_schedule_prints_two_lines() {
 /// The program of the queue with compare-and-swap says nothing of hidden stores.
 #[test]
 fn with_swaps_the_example_prints_its_lines_as_they_stand() {
-    let entries = [(2, 7), (4, 0), (4, 0), (4, 0), (0, 0), (4, 0)];
-    let expected = "\
-4 1 0 1 1 0 enough
-0 0 0
-1 0 0
-2 0 0
-3 7 0
-4 0 0
-5 16 0
-given 0 aborts 0 waits 1
-";
-    assert_eq!(lines_cas(&file(SIZES, &entries)), expected);
+    assert_eq!(
+        lines_cas(&file(SIZES, &EXAMPLE)),
+        format!("{EXAMPLE_LINES}\n")
+    );
     assert_eq!(
         lines_cas(&file(SIZES, &[])),
         "4 1 0 1 1 0 enough\ngiven 0 aborts 0 waits 0\n"
