@@ -20,6 +20,7 @@
 //   kind, which is `obey` of that kind.
 //
 // Types and functions have the names that they have in `machine`; what both machines are made of is in `stores`.
+#![tactic(auto)]
 mod moves;
 mod obey;
 mod state;

@@ -17,7 +17,7 @@ use stores::{Index, Load};
 use terms::Outcome;
 
 // A thief's call in progress: one case for each step that is next, with what that step and later ones use.
-#[derive(Drop)]
+#[derive(Clone, Copy)]
 pub enum ThiefCall {
     // No call runs.
     Idle,
@@ -32,14 +32,14 @@ pub enum ThiefCall {
 }
 
 // A thief.
-#[derive(Drop)]
+#[derive(Clone, Copy)]
 pub struct Thief {
     // Its call in progress.
     pub call: ThiefCall,
 }
 
 // What a thief sees at an entry of its own.
-#[derive(Drop)]
+#[derive(Clone, Copy)]
 pub struct ThiefView {
     // Its call in progress.
     pub call: ThiefCall,
@@ -53,7 +53,7 @@ pub struct ThiefView {
 }
 
 // What the entry does: head and call after it, and its outcome.
-#[derive(Drop)]
+#[derive(Clone, Copy)]
 pub struct ThiefMove {
     pub head: Index,
     pub call: ThiefCall,

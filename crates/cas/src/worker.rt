@@ -26,7 +26,7 @@ use stores::{Index, Load, Maker, Push, StoreKind};
 use terms::Outcome;
 
 // The worker's call in progress: one case for each step that is next, with what that step and later ones use.
-#[derive(Drop)]
+#[derive(Clone, Copy)]
 pub enum WorkerCall {
     // No call runs.
     Idle,
@@ -53,7 +53,7 @@ pub enum WorkerCall {
 }
 
 // What the worker sees at an entry of its own.
-#[derive(Drop)]
+#[derive(Clone, Copy)]
 pub struct WorkerView {
     // Its call in progress.
     pub call: WorkerCall,
@@ -71,7 +71,7 @@ pub struct WorkerView {
 }
 
 // What the entry does: the store that it makes, head and the call after it, and its outcome.
-#[derive(Drop)]
+#[derive(Clone, Copy)]
 pub struct WorkerMove {
     pub push: Push,
     pub head: Index,

@@ -6,6 +6,7 @@
 // both files into traces of its own and compares what stands there, party by party.
 //
 // What is promised is `likeness` (`specs/Alike.antt`); that alike is equality of sizes and answers is a theorem beside it.
+#![tactic(auto)]
 mod likeness;
 
 pub use likeness::{Likeness, alike};

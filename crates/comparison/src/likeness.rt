@@ -11,7 +11,7 @@ use schedule::{
 use terms::{Refusal, Sizes, is_answer};
 
 // The answer of comparing two files.
-#[derive(Drop)]
+#[derive(Clone, Copy)]
 pub enum Likeness {
     // Equal sizes, and equal answers for every party.
     Alike,

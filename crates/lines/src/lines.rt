@@ -25,7 +25,7 @@ const SPACE: u8 = 32;
 const NEWLINE: u8 = 10;
 
 // Lines as text.
-#[derive(Drop)]
+#[derive(Clone, Copy)]
 pub struct Text {
     // The text stands at the front; zeros are behind it.
     pub bytes: [u8; TEXT_ROOM],

@@ -9,14 +9,14 @@ use stores::{
 use terms::{Outcome, Sizes};
 
 // The worker.
-#[derive(Drop)]
+#[derive(Clone, Copy)]
 pub struct Worker {
     // Its call in progress.
     pub call: WorkerCall,
 }
 
 // The whole state of a rehearsal. An operation takes it and hands the next one back.
-#[derive(Drop)]
+#[derive(Clone, Copy)]
 pub struct Machine {
     // The sizes that it was made with; nothing changes them.
     pub sizes: Sizes,
@@ -39,7 +39,7 @@ pub struct Machine {
 }
 
 // What an operation hands back: the machine after it, the entry's outcome, and how far memory lags.
-#[derive(Drop)]
+#[derive(Clone, Copy)]
 pub struct Done {
     pub machine: Machine,
     pub outcome: Outcome,

@@ -29,7 +29,7 @@ use stores::{Holder, Index, Load, Lock, Maker, Push, StoreKind};
 use terms::Outcome;
 
 // The worker's call in progress: one case for each step that is next, with what that step and later ones use.
-#[derive(Drop)]
+#[derive(Clone, Copy)]
 pub enum WorkerCall {
     // No call runs.
     Idle,
@@ -60,7 +60,7 @@ pub enum WorkerCall {
 }
 
 // What the worker sees at an entry of its own.
-#[derive(Drop)]
+#[derive(Clone, Copy)]
 pub struct WorkerView {
     // Its call in progress.
     pub call: WorkerCall,
@@ -79,7 +79,7 @@ pub struct WorkerView {
 }
 
 // What the entry does: the store that it makes, the lock and the call after it, and its outcome.
-#[derive(Drop)]
+#[derive(Clone, Copy)]
 pub struct WorkerMove {
     pub push: Push,
     pub lock: Lock,

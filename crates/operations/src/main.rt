@@ -9,6 +9,7 @@
 //
 // - `tags`: an entry, a store or a call in progress, as a tag with what it holds;
 // - `image`: a machine as bytes.
+#![tactic(auto)]
 mod image;
 mod tags;
 

@@ -3,7 +3,7 @@ use stores::{Holder, Index, Lock, Store, StoreKind};
 use terms::Entry;
 
 // Which of several things something is, and the index and the number that it holds, each 0 if it holds none.
-#[derive(Drop)]
+#[derive(Clone, Copy)]
 pub(crate) struct Tagged(pub(crate) u32, pub(crate) Index, pub(crate) u32);
 
 const NONE: Index = Index { at: 0 };

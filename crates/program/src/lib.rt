@@ -2,6 +2,7 @@
 //
 // What is printed is `lines::lines_of`, proved to be the definition of 01's lines; here is only the reading and the printing. A read
 // that fails ends the input, and a write that fails the output: a program of Rattle has no exit status to tell it by.
+#![tactic(auto)]
 use schedule::Queue;
 
 // One byte more than the longest file has. A longer input is kept so far and is then longer than any file: it is refused, never cut to

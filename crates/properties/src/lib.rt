@@ -5,3 +5,4 @@
 // - how many steps a call has (`specs/CallLength.antt`);
 // - when a take is too early, by what a reader of entries and outcomes counts (`specs/TakesApart.antt`);
 // - how far memory lags behind the worker at most (`specs/Hidden.antt`), and that the stores which are counted there are those of take step 1 (`specs/TakeStores.antt`).
+#![tactic(auto)]

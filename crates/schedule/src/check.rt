@@ -4,7 +4,7 @@ ghost use Rattle.schedule.specs.Check.{check_ranges};
 use terms::{Refusal, SizeCheck, Sizes};
 
 // The answer of a check.
-#[derive(Drop)]
+#[derive(Clone, Copy)]
 pub enum Check {
     Passed,
     Failed(Refusal),

@@ -12,7 +12,7 @@ use number::word_at;
 use terms::{Refusal, Sizes};
 
 // The reader's answer.
-#[derive(Drop)]
+#[derive(Clone, Copy)]
 pub enum Reading {
     // The file is a schedule: its first six sizes, and how many entries it has.
     Accepted(Sizes, usize),

@@ -21,7 +21,7 @@ use number::put_word;
 use terms::{Entry, Outcome, Refusal, Sizes, Tally};
 
 // What one step of a run hands back.
-#[derive(Drop)]
+#[derive(Clone, Copy)]
 pub struct Stepped {
     // The machine after the entry.
     pub machine: Machine,
@@ -34,7 +34,7 @@ pub struct Stepped {
 }
 
 // What a run tells of all its entries together.
-#[derive(Drop)]
+#[derive(Clone, Copy)]
 pub struct Summary {
     // The totals of their outcomes.
     pub tally: Tally,
@@ -43,7 +43,7 @@ pub struct Summary {
 }
 
 // The queues that a file can be run on, by the paper's names.
-#[derive(Drop)]
+#[derive(Clone, Copy)]
 pub enum Queue {
     // With a lock: 01's queue, on the machine of the library `machine`.
     FfThe,
@@ -52,7 +52,7 @@ pub enum Queue {
 }
 
 // The answer of running a file.
-#[derive(Drop)]
+#[derive(Clone, Copy)]
 pub enum Running {
     // Every entry has its outcome, and the trace stands at the front of the buffer.
     Ran(Summary),

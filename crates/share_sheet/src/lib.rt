@@ -14,6 +14,7 @@
 // - `blocks`: the first begin put of what is no block, or of a block that is used;
 // - `shares`: what a trace says of each block;
 // - `sheet`: the sheet as a whole.
+#![tactic(auto)]
 mod blocks;
 mod shares;
 mod sheet;

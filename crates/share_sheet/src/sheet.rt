@@ -26,7 +26,7 @@ const MOST_BLOCKS: usize = 255;
 const NOT_GIVEN: u8 = 255;
 
 // The answer of making a sheet.
-#[derive(Drop)]
+#[derive(Clone, Copy)]
 pub enum Sheet {
     // The sheet stands at the front of the buffer, and has so many bytes.
     Written(usize),

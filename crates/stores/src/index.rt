@@ -13,7 +13,7 @@ ghost use Rattle.stores.specs.Index.{
 
 // A position of the queue: a value of head or tail, or the place of a task. It never wraps; a slot is found by its
 // remainder. -1 is a true value: a take from an empty queue that starts at 0 stores it as the tail.
-#[derive(Drop)]
+#[derive(Clone, Copy)]
 pub struct Index {
     pub at: i64,
 }

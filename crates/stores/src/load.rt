@@ -5,7 +5,7 @@ use crate::index::{Index, slot_of};
 use crate::store_buffer::StoreBuffer;
 
 // The slot from which a step loads, if it loads from one: that of an index.
-#[derive(Drop)]
+#[derive(Clone, Copy)]
 pub enum Load {
     NoSlot,
     SlotOf(Index),

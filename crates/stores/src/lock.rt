@@ -2,7 +2,7 @@ ghost use Rattle.std.specs.Prelude.{◌≡◌};
 ghost use Rattle.stores.specs.Lock.{is_nobody};
 
 // Who holds the lock.
-#[derive(Drop)]
+#[derive(Clone, Copy)]
 pub enum Holder {
     Nobody,
     TheWorker,
@@ -11,7 +11,7 @@ pub enum Holder {
 }
 
 // The queue's lock.
-#[derive(Drop)]
+#[derive(Clone, Copy)]
 pub struct Lock {
     pub holder: Holder,
 }

@@ -7,7 +7,7 @@ use crate::store_buffer::{Push, StoreBuffer, StoreKind};
 use terms::Sizes;
 
 // What one look at a machine finds, with which every operation begins.
-#[derive(Drop)]
+#[derive(Clone, Copy)]
 pub struct Look {
     // Whether the machine is in range.
     pub ranged: bool,

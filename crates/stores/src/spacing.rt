@@ -13,7 +13,7 @@ use crate::store_buffer::{Maker, Push};
 use terms::Entry;
 
 // What the spacing rule goes by.
-#[derive(Drop)]
+#[derive(Clone, Copy)]
 pub struct Spacing {
     // The spacing count: the stores that count, made since the last take began; 0 before the first.
     pub count: u32,

@@ -19,7 +19,7 @@ ghost use Rattle.stores.specs.StoreBuffer.{
 use crate::index::{Index, slot_of};
 
 // What a store writes to, with the value if it has one.
-#[derive(Drop)]
+#[derive(Clone, Copy)]
 pub enum StoreKind {
     // The client's own memory, which the machine does not have: the value is 0 and goes nowhere.
     Client,
@@ -30,13 +30,13 @@ pub enum StoreKind {
 }
 
 // A store that the worker has made.
-#[derive(Drop)]
+#[derive(Clone, Copy)]
 pub struct Store {
     pub kind: StoreKind,
 }
 
 // Who makes a store.
-#[derive(Drop)]
+#[derive(Clone, Copy)]
 pub enum Maker {
     // The program around the queue.
     TheClient,
@@ -47,14 +47,14 @@ pub enum Maker {
 }
 
 // The store that an entry makes, with who makes it, if it makes one.
-#[derive(Drop)]
+#[derive(Clone, Copy)]
 pub enum Push {
     Nothing,
     One(Maker, StoreKind),
 }
 
 // The stores that the worker has made and that have not reached memory, oldest first.
-#[derive(Drop)]
+#[derive(Clone, Copy)]
 pub struct StoreBuffer {
     // The pending stores stand in the first `count` cells. A machine's own operations keep the client store in the
     // others, so that equal buffers have equal cells.
@@ -64,7 +64,7 @@ pub struct StoreBuffer {
 }
 
 // What dropping the oldest store of a buffer hands back.
-#[derive(Drop)]
+#[derive(Clone, Copy)]
 pub struct Dropped {
     // The store that has been pending longest; what the first cell holds, where none is pending.
     pub oldest: Store,
@@ -73,7 +73,7 @@ pub struct Dropped {
 }
 
 // What one pass over the pending stores finds.
-#[derive(Drop)]
+#[derive(Clone, Copy)]
 pub struct Scan {
     // Whether each is in range.
     pub ranged: bool,

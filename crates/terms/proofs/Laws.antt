@@ -1,10 +1,7 @@
 pub mod Kinds
 pub mod Largest
 pub mod Lists
-pub mod Logic
 pub mod Runs
 pub mod Sizes
 pub mod Sums
-pub mod Tally
 pub mod Tests
-pub mod Walk

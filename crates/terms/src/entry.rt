@@ -3,7 +3,7 @@ ghost use Rattle.terms.specs.Kinds.{party_number, thief_of};
 
 // The seven kinds of entry that a schedule is made of. A call is begun by one entry, which leaves memory alone, and then
 // makes its steps, one to an entry.
-#[derive(Drop)]
+#[derive(Clone, Copy)]
 pub enum Entry {
     // The oldest pending store reaches memory.
     Drain,

@@ -5,7 +5,7 @@ use crate::entry::Entry;
 use crate::refusal::Refusal;
 
 // What a kind byte and its operand mean.
-#[derive(Drop)]
+#[derive(Clone, Copy)]
 pub enum Meaning {
     // An entry for the machine to obey.
     Allowed(Entry),

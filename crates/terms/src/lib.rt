@@ -8,6 +8,7 @@
 // - `refusal`: why a file is refused, with number and place;
 // - `kinds`: what a kind byte and its operand mean: an entry, or a refusal;
 // - `tally`: how many entries had each of three outcomes; an outcome is counted by value, or in a tally that is lent.
+#![tactic(auto)]
 mod entry;
 mod kinds;
 mod outcome;

@@ -2,7 +2,7 @@ ghost use Rattle.std.specs.Prelude.{◌≡◌};
 ghost use Rattle.terms.specs.Outcome.{is_answer_number, is_refusal, number_of, value_of};
 
 // The outcome of an entry.
-#[derive(Drop)]
+#[derive(Clone, Copy)]
 pub enum Outcome {
     // A step was made, and the call goes on; or a drain, a client store or a beginning.
     Moved,

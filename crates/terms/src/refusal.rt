@@ -2,7 +2,7 @@ ghost use Rattle.std.specs.Prelude.{◌≡◌};
 ghost use Rattle.terms.specs.Refusal.{number_of, place_of};
 
 // Why a file is not read, or not written, or no sheet made of it: it breaks a rule, or the memory that was lent is too small.
-#[derive(Drop)]
+#[derive(Clone, Copy)]
 pub enum Refusal {
     // SIZE: the size at this place, counted from 0, is out of its range; 7 is a share sheet's count.
     Size(usize),

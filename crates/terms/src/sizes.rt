@@ -3,7 +3,7 @@ ghost use Rattle.terms.specs.Refusal.{Refuses};
 ghost use Rattle.terms.specs.Sizes.{check_sizes, enough_margin, margin_in_use, needed_margin, refusal_in_sizes, sizes_have, sizes_in_range, within};
 
 // The first six sizes of a schedule, as its file has them. The margin may be 0 here; `margin_in_use` says what that is.
-#[derive(Drop)]
+#[derive(Clone, Copy)]
 pub struct Sizes {
     // How many slots memory has. (W in Morrison and Afek.)
     pub slots: u32,
@@ -21,7 +21,7 @@ pub struct Sizes {
 }
 
 // Whether six sizes are in range.
-#[derive(Drop)]
+#[derive(Clone, Copy)]
 pub enum SizeCheck {
     AllInRange,
     // The place of the first size that is not, counted from 0.

@@ -4,7 +4,7 @@ ghost use Rattle.terms.specs.Tally.{counted, counted_if, none_counted};
 use crate::outcome::Outcome;
 
 // How many entries had each of three outcomes. A total that has reached the largest number stays there.
-#[derive(Drop)]
+#[derive(Clone, Copy)]
 pub struct Tally {
     // TASK: a task was handed out.
     pub given: u32,

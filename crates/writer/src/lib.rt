@@ -9,6 +9,7 @@
 //
 // - `entries`: the first faulty entry of two arrays;
 // - `writer`: a file as a whole.
+#![tactic(auto)]
 mod entries;
 mod writer;
 

@@ -12,7 +12,7 @@ use schedule::{Check, ENTRY_BYTES, SIZES_BYTES, check_ranges};
 use terms::{Refusal, Sizes};
 
 // The writer's answer.
-#[derive(Drop)]
+#[derive(Clone, Copy)]
 pub enum Writing {
     // The file stands at the front of the buffer, and has so many bytes.
     Written(usize),

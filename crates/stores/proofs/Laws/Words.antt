@@ -78,4 +78,4 @@ number_small n h = record { small = h }
 
 -- a number that is small, read back from its bits
 pub small_read : {z : ℤ} → Small z → to_z w64 (of_z w64 z) ≡ z
-small_read p = to_z-of_z (record { sfits = lt_of_le_of_lt p.small (lit< tt) })
+small_read {z} p = to_z-of_z {w = w64} (record { sfits = lt_of_le_of_lt p.small (lit< {m = 4294967296} tt) })
