@@ -1,16 +1,13 @@
 -- Every entry of a party is a move of it: refused, or performed part by part. So the code decides the entries of a party in one place, and knows by the outcome alone that the machine is handed back as it was.
 use mathlib.Core.Path.{◌≡◌, refl, ap, sym, ◌∙◌}
 use mathlib.Core.List.{◌∷◌, []}
-use mathlib.Core.Bool.{true, cond, ◌&&◌}
+use mathlib.Core.Bool.{true, false≢true, cond, ◌&&◌}
 use Prim.Native.Nat.{◌≤◌, ◌<◌}
-use types.Run.{OneOf, miss}
-use denote.Enum.Declared.{tag_of}
 use lib.Dec.{ltb}
 use borrow.Author.Tests.{ltb-true}
-use Rattle.terms.specs.contracts.entry.Entry.{the_type}
 use Rattle.terms.specs.Outcome.{is_refusal}
 use Rattle.terms.specs.Kinds.{thief_is_there, thief_of}
-use Rattle.terms.proofs.Laws.Kinds.{thief_by_number}
+use Rattle.terms.proofs.Laws.Kinds.{is_thiefs, is_workers, thief_by_number}
 use Rattle.terms.proofs.Laws.Tests.{and_after, cond_map, decide, either}
 use Rattle.stores.specs.Spacing.{counted_in, counted_in_or_same, spacing_after, take_begins, too_early}
 use Rattle.stores.specs.StoreBuffer.{pushed_in}
@@ -54,22 +51,22 @@ module _ (m : Machine) (few : m.spacing.count ≤ 4096) where
   told_counting d = unless_refused d.outcome m (worked m (counted_in_or_same d.push m.spacing) d)
 
   -- refused, its entry leaves the machine as it was, and else it is that move, performed
-  pub worker_moves_lem : (e : Entry) → OneOf (1 ∷ 2 ∷ 3 ∷ 4 ∷ []) (tag_of the_type e)
+  pub worker_moves_lem : (e : Entry) → is_workers e ≡ true
       → obey_in_range m e ≡ unless_refused (worker_entry_move m e).outcome m (worked m (spacing_after e (worker_entry_move m e).push m.spacing) (worker_entry_move m e))
-  worker_moves_lem ClientStore keys =
+  worker_moves_lem ClientStore ours =
       cond_map told_counting (worker_runs m.worker.call) refl (cond_map told_counting (has_room m) (counted (One TheClient Client) (λ s. done Moved (with_spacing s (with_buffer (pushed_in (One TheClient Client) m.buffer) m)))) refl)
-  worker_moves_lem (BeginPut x) keys =
+  worker_moves_lem (BeginPut x) ours =
       cond_map told_counting (worker_runs m.worker.call) refl (counted Nothing (λ s. done Moved (with_worker (PutLoadHead x) (with_spacing s m))))
-  worker_moves_lem BeginTake keys =
+  worker_moves_lem BeginTake ours =
       let told_beginning : WorkerMove → Done = λ d. unless_refused d.outcome m (worked m take_begins d) in
       cond_map told_beginning (worker_runs m.worker.call) refl (cond_map told_beginning (too_early m.spacing m.sizes.spacing) refl refl)
-  worker_moves_lem WorkerStep keys =
+  worker_moves_lem WorkerStep ours =
       let d = worker_entry_move m WorkerStep in
       kept d.outcome m (worked m (counted_in d.push m.spacing) d) (worker_obeys m m.worker.call refl).keeps
       ∙ counted d.push (λ s. unless_refused d.outcome m (worked m s d))
-  worker_moves_lem Drain keys = absurd (miss (1 ∷ 2 ∷ 3 ∷ 4 ∷ []) 0 tt keys)
-  worker_moves_lem (BeginSteal i) keys = absurd (miss (1 ∷ 2 ∷ 3 ∷ 4 ∷ []) 5 tt keys)
-  worker_moves_lem (ThiefStep i) keys = absurd (miss (1 ∷ 2 ∷ 3 ∷ 4 ∷ []) 6 tt keys)
+  worker_moves_lem Drain ours = absurd (false≢true ours)
+  worker_moves_lem (BeginSteal i) ours = absurd (false≢true ours)
+  worker_moves_lem (ThiefStep i) ours = absurd (false≢true ours)
 
 -- a store is made only where there is room
 module _ (m : Machine) where
@@ -95,16 +92,16 @@ abbrev pub thief_entry_move : Machine → Entry → ThiefMove
 thief_entry_move m e = thief_entry e (thief_view m (thief_call m (thief_of e)))
 
 -- .. refused or performed
-pub thief_moves_lem : (m : Machine) (e : Entry) → OneOf (5 ∷ 6 ∷ []) (tag_of the_type e) → obey_in_range m e ≡ unless_refused (thief_entry_move m e).outcome m (perform_thief (thief_of e) m (thief_entry_move m e)).machine
-thief_moves_lem m (BeginSteal i) keys = cond_map (λ d. unless_refused d.outcome m (perform_thief i m d).machine) (thief_runs (thief_call m i)) refl refl
-thief_moves_lem m (ThiefStep i) keys =
+pub thief_moves_lem : (m : Machine) (e : Entry) → is_thiefs e ≡ true → obey_in_range m e ≡ unless_refused (thief_entry_move m e).outcome m (perform_thief (thief_of e) m (thief_entry_move m e)).machine
+thief_moves_lem m (BeginSteal i) ours = cond_map (λ d. unless_refused d.outcome m (perform_thief i m d).machine) (thief_runs (thief_call m i)) refl refl
+thief_moves_lem m (ThiefStep i) ours =
     let d = thief_entry_move m (ThiefStep i) in
     kept d.outcome m (perform_thief i m d).machine (thief_obeys i m (thief_call m i) refl).keeps
-thief_moves_lem m Drain keys = absurd (miss (5 ∷ 6 ∷ []) 0 tt keys)
-thief_moves_lem m ClientStore keys = absurd (miss (5 ∷ 6 ∷ []) 1 tt keys)
-thief_moves_lem m (BeginPut x) keys = absurd (miss (5 ∷ 6 ∷ []) 2 tt keys)
-thief_moves_lem m BeginTake keys = absurd (miss (5 ∷ 6 ∷ []) 3 tt keys)
-thief_moves_lem m WorkerStep keys = absurd (miss (5 ∷ 6 ∷ []) 4 tt keys)
+thief_moves_lem m Drain ours = absurd (false≢true ours)
+thief_moves_lem m ClientStore ours = absurd (false≢true ours)
+thief_moves_lem m (BeginPut x) ours = absurd (false≢true ours)
+thief_moves_lem m BeginTake ours = absurd (false≢true ours)
+thief_moves_lem m WorkerStep ours = absurd (false≢true ours)
 
 -- ── The test before both ────────────────────────────────────────────────────────────────────────────────────────────────────
 

@@ -7,8 +7,6 @@ use Prim.Native.Nat.{ℕ, suc, ◌+◌, ◌-◌, ◌≤◌, ◌<◌, zero-le}
 use native.Mathlib.Nat.{add-zero}
 use native.Mathlib.Numerals.{add-one}
 use native.Mathlib.Omega.{arith}
-use types.Run.{OneOf, miss}
-use denote.Enum.Declared.{tag_of}
 use lib.Dec.{ltb}
 use lib.ListN.{length, get_or, drop, take, length-drop, length-set, length-take}
 use lib.Seq.{take_at, take-suc, take-suc-set}
@@ -19,7 +17,6 @@ use Rattle.terms.proofs.Laws.Lists.{&&-true, all_snoc, get_d_set, take_first, ta
 use Rattle.stores.specs.Types.{Index, Push, Nothing, One, Scan, Store, StoreBuffer, StoreKind, Client, Tail, Slot}
 use Rattle.stores.specs.Index.{index_in_range, slot_of}
 use Rattle.stores.specs.StoreBuffer.{client_store, drop_oldest, drop_oldest_or_same, lowers_tail, newest_in_slot, newest_tail, oldest, pending, push, push_in_range, push_lowers_tail, push_or_same, pushed_in, pushed_or_same, scan, scanned, slot_after, slots_after, store_in_range, tail_after, take_stores}
-use Rattle.stores.specs.contracts.store_buffer.StoreKind.{the_type}
 
 -- the store that a step makes, if it makes one, has a place behind n stores, where there are so many
 abbrev pub PushFits : ℕ → Push → ℕ → Type 0
@@ -151,17 +148,11 @@ module _ (b : StoreBuffer) (some : 0 < b.count) (within : b.count ≤ length b.s
 
 -- ── What a store leaves alone, by its kind ──────────────────────────────────────────────────────────────────────────────────
 
--- a slot store the tail
-pub slot_store_leaves : (t : Index) (k : StoreKind) → OneOf (2 ∷ []) (tag_of the_type k) → t ≡ tail_after t k
-slot_store_leaves t (Slot x i) keys = refl
-slot_store_leaves t Client keys = absurd (miss (2 ∷ []) 0 tt keys)
-slot_store_leaves t (Tail u) keys = absurd (miss (2 ∷ []) 1 tt keys)
-
--- any other the slots
-pub other_store_leaves : (n : ℕ) (slots : List ℕ) (k : StoreKind) → OneOf (0 ∷ 1 ∷ []) (tag_of the_type k) → slots ≡ slots_after n slots k
-other_store_leaves n slots Client keys = refl
-other_store_leaves n slots (Tail u) keys = refl
-other_store_leaves n slots (Slot x i) keys = absurd (miss (0 ∷ 1 ∷ []) 2 tt keys)
+-- any but a slot store leaves the slots
+pub other_store_leaves : (n : ℕ) (slots : List ℕ) (k : StoreKind) → ((x : ℕ) (i : Index) → k ≡ Slot x i → ⊥) → slots ≡ slots_after n slots k
+other_store_leaves n slots Client other = refl
+other_store_leaves n slots (Tail u) other = refl
+other_store_leaves n slots (Slot x i) other = absurd (other x i refl)
 
 -- ── What one pass finds ─────────────────────────────────────────────────────────────────────────────────────────────────────
 
