@@ -25,7 +25,7 @@ use Rattle.cas.specs.Machine.{has_room, memory_load, nothing_pending, thief_call
 use Rattle.cas.specs.Entries.{step_of_worker, worker_view}
 use Rattle.cas.proofs.Linearizable.Invariant.{AgreesOn, Sound}
 use Rattle.cas.proofs.Linearizable.Rebuild.{after_worker, agrees_call, aim_of_raised, rebuilt, recalled, sure_raised, sure_tasks, tail_agrees}
-use Rattle.cas.proofs.Linearizable.Turn.{MoveTurn, StepTurn, answers_owed, making, stayed, thieves_alone}
+use Rattle.cas.proofs.Linearizable.Turn.{MoveTurn, StepTurn, alone, answers_owed, making, stayed}
 
 -- a take that comes to its swap is told to the plain queue as one of a swap, won or lost
 abbrev by_swap : Bool
@@ -48,13 +48,11 @@ module _ {n : ℕ} {m : Machine} (q : PlainQueue) where
         (omega (arith, v.spaced.1))
         (omega (arith, v.counted)) in
         subst (λ i. MoveTurn v q (making (One ATake (Tail i)) Moved (TakeLoadHead i) m)) (sym (ap previous (seen_tail v.buffer) ∙ idx_previous seen positive))
-        (record {
-          told = [];
-          told_is = refl;
-          others = thieves_alone m _ refl;
-          sound = sound;
-          turn = λ g. moves {A = AgreesOn sound} refl refl (tail_agrees v room q (seen - 1) (omega arith) refl g);
-        })
+        (alone v refl
+          []
+          refl
+          sound
+          (λ g. moves {A = AgreesOn sound} refl refl (tail_agrees v room q (seen - 1) (omega arith) refl g)))
 
     pub take_store_tail_lem : StepTurn v q (step_of_worker m TakeStoreTail)
     take_store_tail_lem = decide (MoveTurn v q) (has_room m) lowers (λ e. stayed v Wait refl refl)
@@ -91,12 +89,11 @@ module _ {n : ℕ} {m : Machine} (q : PlainQueue) where
         let above : head < seen = ltb-true head seen (known is_above_head_is found) in
         let apart : is_head t (worker_view m (TakeLoadHead t)) ≡ false = is_head_is ∙ ne_eqb seen head (λ e. omega arith) in
         let sound = recalled v (TakeLoadSlot t) (record { holds = v.tail.holds; floor = omega (arith, v.head.floor, v.head.reached); top = omega (arith, v.tail.top) }) v.spaced in
-        record {
-          told = told_take false ∷ [];
-          told_is = ap (λ b. told_of a_take (only_where (not b) false)) (sym apart);
-          others = thieves_alone m _ refl;
-          sound = sound;
-          turn = λ g.
+        alone v refl
+          (told_take false ∷ [])
+          (ap (λ b. told_of a_take (only_where (not b) false)) (sym apart))
+          sound
+          (λ g.
               let two : 1 < length q.tasks = omega (arith, g.count) in
               let last : head + (length q.tasks - 1) ≡ seen = omega (arith, g.count) in
               let number : (task_at q.tasks (length q.tasks - 1)).number ≡ worker_load m t =
@@ -113,20 +110,17 @@ module _ {n : ℕ} {m : Machine} (q : PlainQueue) where
                     sure_tasks m.head head v.buffer.bound (memory_load m (idx head)) (pending m.buffer) q.tasks (after_take q false).tasks (thief_call m i)
                     (λ some. (simp length-take (omega arith), sym (get_or-take (length q.tasks - 1) q.tasks 0 (record { put = 0; number = 0 }) (omega arith))))
                     (g.sure i);
-              });
-        }
+              }))
 
     -- t is head: the swap will decide
     doubts : is_head t (worker_view m (TakeLoadHead t)) ≡ true → MoveTurn v q (goes_on (TakeTailPastHead t) (worker_view m (TakeLoadHead t)))
     doubts equal =
         let here : v.buffer.seen ≡ v.head.at = eqb-true v.buffer.seen v.head.at (known is_head_is equal) in
-        record {
-          told = [];
-          told_is = ap (λ b. told_of a_take (only_where (not b) false)) (sym equal);
-          others = thieves_alone m _ refl;
-          sound = recalled looked (TakeTailPastHead t) (record { holds = (v.tail.holds ∙ ap idx here, here); floor = v.tail.floor; top = v.tail.top }) v.spaced;
-          turn = λ g. moves refl refl (agrees_call refl g.room g);
-        }
+        alone v refl
+          []
+          (ap (λ b. told_of a_take (only_where (not b) false)) (sym equal))
+          (recalled looked (TakeTailPastHead t) (record { holds = (v.tail.holds ∙ ap idx here, here); floor = v.tail.floor; top = v.tail.top }) v.spaced)
+          (λ g. moves refl refl (agrees_call refl g.room g))
 
     -- t is below head: no task stands
     finds_none : is_above_head t (worker_view m (TakeLoadHead t)) ≡ false → is_head t (worker_view m (TakeLoadHead t)) ≡ false
@@ -136,13 +130,11 @@ module _ {n : ℕ} {m : Machine} (q : PlainQueue) where
         let seen = v.buffer.seen in
         let low = ltb-false head seen (known is_above_head_is not_above) in
         let apart : seen ≡ head → ⊥ = eqb-false seen head (known is_head_is not_equal) in
-        record {
-          told = told_take false ∷ [];
-          told_is = ap (λ b. told_of a_take (only_where (not b) false)) (sym not_equal);
-          others = thieves_alone m _ refl;
-          sound = recalled looked (TakeTailToHead m.head) (record { holds = (v.head.is, omega arith); floor = v.tail.floor; top = v.tail.top }) v.spaced;
-          turn = λ g. takes_effect (replies_empty q false (omega (arith, g.count))) refl refl refl (agrees_call refl g.room g);
-        }
+        alone v refl
+          (told_take false ∷ [])
+          (ap (λ b. told_of a_take (only_where (not b) false)) (sym not_equal))
+          (recalled looked (TakeTailToHead m.head) (record { holds = (v.head.is, omega arith); floor = v.tail.floor; top = v.tail.top }) v.spaced)
+          (λ g. takes_effect (replies_empty q false (omega (arith, g.count))) refl refl refl (agrees_call refl g.room g))
 
     pub take_load_head_lem : StepTurn v q (step_of_worker m (TakeLoadHead t))
     take_load_head_lem =
@@ -173,13 +165,11 @@ module _ {n : ℕ} {m : Machine} (q : PlainQueue) where
         (omega (arith, v.spaced))
         (omega (arith, v.counted)) in
         subst (λ i. MoveTurn v q (making (One ATake (Tail i)) Empty WorkerCall.Idle m)) (sym v.tail.holds.0)
-        (record {
-          told = [];
-          told_is = refl;
-          others = thieves_alone m _ refl;
-          sound = sound;
-          turn = λ g. ends {A = AgreesOn sound} refl refl (tail_agrees v room q saw (omega (arith, g.count, v.head.reached)) refl g);
-        })
+        (alone v refl
+          []
+          refl
+          sound
+          (λ g. ends {A = AgreesOn sound} refl refl (tail_agrees v room q saw (omega (arith, g.count, v.head.reached)) refl g)))
 
     pub take_tail_to_head_lem : StepTurn v q (step_of_worker m (TakeTailToHead h))
     take_tail_to_head_lem = decide (MoveTurn v q) (has_room m) restores (λ e. stayed v Wait refl refl)
@@ -199,13 +189,11 @@ module _ {n : ℕ} {m : Machine} (q : PlainQueue) where
         (omega (arith, v.spaced))
         (omega (arith, v.counted)) in
         subst (λ i. MoveTurn v q (making (One ATake (Tail i)) Moved (TakeSwapHead t) m)) (sym (ap next v.tail.holds.0 ∙ idx_next saw))
-        (record {
-          told = [];
-          told_is = refl;
-          others = thieves_alone m _ refl;
-          sound = sound;
-          turn = λ g. moves {A = AgreesOn sound} refl refl (tail_agrees v room q (saw + 1) (omega arith) refl g);
-        })
+        (alone v refl
+          []
+          refl
+          sound
+          (λ g. moves {A = AgreesOn sound} refl refl (tail_agrees v room q (saw + 1) (omega arith) refl g)))
 
     pub take_tail_past_head_lem : StepTurn v q (step_of_worker m (TakeTailPastHead t))
     take_tail_past_head_lem = decide (MoveTurn v q) (has_room m) puts_back (λ e. stayed v Wait refl refl)
@@ -236,12 +224,11 @@ module _ {n : ℕ} {m : Machine} (q : PlainQueue) where
           counted = omega (arith, v.counted);
           aims = λ i. aim_of_raised m.sizes.start head (thief_call m i) (v.aims i);
         } in
-        record {
-          told = told_take by_swap ∷ [];
-          told_is = refl;
-          others = thieves_alone m _ refl;
-          sound = sound;
-          turn = λ g.
+        alone v refl
+          (told_take by_swap ∷ [])
+          refl
+          sound
+          (λ g.
               let one : length q.tasks ≡ 1 = omega (arith, g.count) in
               let last : head + (length q.tasks - 1) ≡ v.head.saw = omega arith in
               let number : (task_at q.tasks (length q.tasks - 1)).number ≡ worker_load m t =
@@ -256,22 +243,19 @@ module _ {n : ℕ} {m : Machine} (q : PlainQueue) where
                 below = omega (arith, g.below);
                 shows = λ k h. absurd (omega arith);
                 sure = λ i. sure_raised m.sizes.start head _ _ raised (thief_call m i) (v.aims i);
-              });
-        }
+              }))
 
     -- a thief was faster
     loses : is_head t (worker_view m (TakeSwapHead t)) ≡ false → MoveTurn v q (answers Empty (worker_view m (TakeSwapHead t)))
     loses gone =
         let apart : v.head.saw ≡ v.head.at → ⊥ = eqb-false v.head.saw v.head.at (known still_is gone) in
         let past : v.buffer.seen ≡ v.head.saw + 1 = v.tail.holds.1 in
-        record {
-          told = told_take by_swap ∷ [];
-          told_is = refl;
-          others = thieves_alone m _ refl;
-          sound = recalled v WorkerCall.Idle (record { holds = tt; floor = v.tail.floor; top = v.tail.top }) v.spaced;
-          turn = λ g.
-              answers_at_once (replies_empty q by_swap (omega (arith, g.count, v.head.reached))) refl refl refl (agrees_call refl g.room g);
-        }
+        alone v refl
+          (told_take by_swap ∷ [])
+          refl
+          (recalled v WorkerCall.Idle (record { holds = tt; floor = v.tail.floor; top = v.tail.top }) v.spaced)
+          (λ g.
+              answers_at_once (replies_empty q by_swap (omega (arith, g.count, v.head.reached))) refl refl refl (agrees_call refl g.room g))
 
     pub take_swap_head_lem : StepTurn v q (step_of_worker m (TakeSwapHead t))
     take_swap_head_lem =

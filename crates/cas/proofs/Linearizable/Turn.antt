@@ -1,16 +1,16 @@
 -- What an entry has to show, of the machine and of the plain queue beside it; and the ways to show it that several entries of the worker's share.
 use mathlib.Core.Path.{◌≡◌, refl, ap, sym, subst}
 use mathlib.Core.Bool.{true, false, cond, false≢true}
-use mathlib.Core.List.{[], ◌∷◌}
+use mathlib.Core.List.{List, [], ◌∷◌}
 use Prim.Native.Nat.{ℕ, ◌+◌, ◌≤◌}
 use native.Mathlib.Omega.{arith}
 use lib.ListN.{get_or}
 use Rattle.terms.specs.Outcome.{is_answer, is_refusal}
 use Rattle.stores.proofs.Laws.Spacing.{asked}
-use Rattle.claim.specs.PlainQueue.{PlainQueue}
+use Rattle.claim.specs.PlainQueue.{PlainQueue, Told}
 use Rattle.claim.specs.Calls.{Begun, nothing, Effect, Party, worker, thief, same_party}
 use Rattle.claim.proofs.Entries.{EntryTurn}
-use Rattle.claim.proofs.Turn.{ends, refuses, told_in}
+use Rattle.claim.proofs.Turn.{Turn, ends, refuses, told_in}
 use Rattle.cas.specs.Types.{Done, Machine, Outcome, Push, ThiefCall, WorkerCall, WorkerMove}
 use Rattle.cas.specs.Worker.{answers, stays}
 use Rattle.cas.specs.Thief.{idle_thief}
@@ -54,23 +54,32 @@ ThiefTurn v q i own next effect d = ThiefTurnTo v q i own next (effect d.outcome
 
 -- ── The worker's entries ────────────────────────────────────────────────────────────────────────────────────────────────────
 
--- they leave the thieves alone
+-- they leave the thieves alone v refl
 pub thieves_alone : (m t : Machine) → m.thieves ≡ t.thieves → (r : Party) → same_party r worker ≡ false → (begun_of t r ≡ begun_of m r) × (owes t r ≡ owes m r)
 thieves_alone m t same worker e = absurd (false≢true (sym e))
 thieves_alone m t same (thief j) e = (ap (λ l. thief_begun (get_or l j idle_thief).call) (sym same), refl)
+
+-- what is left to show of an entry that does
+pub alone :
+    {n : ℕ} {m m' : Machine} {c : WorkerCall} (v : Sound n m c) {q : PlainQueue} {next : Begun} {f : Effect} {o : Outcome} → m.thieves ≡ m'.thieves → (told : List Told)
+    → told ≡ told_in (worker_begun (worker_load m (worker_tail m)) c) o f
+    → (sound : Holds (n + 1) m')
+    → (AgreesOn v q
+    → Turn ff_cl.is_told (limits m.sizes) (worker_begun (worker_load m (worker_tail m)) c) (worker_owes (worker_load m) c) q told o next (begun_of m' worker) (owes m' worker) (HoldsBeside (n + 1) m' sound))
+    → TurnTo v q next f o m'
+alone {m = m} {m' = m'} v same told told_is sound turn =
+    record { told = told; told_is = told_is; others = thieves_alone m m' same; sound = sound; turn = turn }
 
 module _ {n : ℕ} {m : Machine} {c : WorkerCall} (v : Sound n m c) {q : PlainQueue} where
   module _ {next : Begun} {f : Effect} where
     -- a step that is refused leaves all as it is
     pub stayed : (o : Outcome) → is_refusal o ≡ true → is_answer o ≡ false → TurnTo v q next f o (perform_worker m (stays o (worker_view m c))).machine
     stayed o refusal no_answer =
-        record {
-          told = [];
-          told_is = rw refusal;
-          others = λ r other. thieves_alone m _ refl r other;
-          sound = recalled v c v.tail v.spaced;
-          turn = λ g. refuses refusal no_answer refl refl (agrees_call refl g.room g);
-        }
+        alone v refl
+          []
+          (rw refusal)
+          (recalled v c v.tail v.spaced)
+          (λ g. refuses refusal no_answer refl refl (agrees_call refl g.room g))
 
     -- .. and so does any other entry
     pub refused : (o : Outcome) → m.worker.call ≡ c → is_refusal o ≡ true → is_answer o ≡ false → TurnTo v q next f o m
@@ -83,10 +92,8 @@ module _ {n : ℕ} {m : Machine} {c : WorkerCall} (v : Sound n m c) {q : PlainQu
       → worker_owes (worker_load m) c ≡ cond (ff_cl.is_told (worker_begun (worker_load m (worker_tail m)) c) o) (o ∷ []) [] → lowered c ≡ 0 → filling c ≡ 0 → v.buffer.owed ≤ asked m.spacing m.sizes.spacing
       → MoveTurn v q (answers o (worker_view m c))
   answers_owed o answer told_is owed level still spaced =
-      record {
-        told = [];
-        told_is = told_is;
-        others = thieves_alone m _ refl;
-        sound = recalled v WorkerCall.Idle (record { holds = tt; floor = omega (arith, v.tail.floor); top = omega (arith, v.tail.top) }) spaced;
-        turn = λ g. ends answer owed (agrees_call level (omega (arith, g.room)) g);
-      }
+      alone v refl
+        []
+        told_is
+        (recalled v WorkerCall.Idle (record { holds = tt; floor = omega (arith, v.tail.floor); top = omega (arith, v.tail.top) }) spaced)
+        (λ g. ends answer owed (agrees_call level (omega (arith, g.room)) g))

@@ -28,7 +28,7 @@ use Rattle.cas.specs.Linearizable.{worker_owes}
 use Rattle.cas.proofs.Laws.Loads.{drained_worker_load, drained_worker_tail}
 use Rattle.cas.proofs.Linearizable.Invariant.{AgreesOn, Holds, Sound, memory_of, worker_begun}
 use Rattle.cas.proofs.Linearizable.Rebuild.{agrees_call, pushed_agrees, rebuilt, recalled, sure_map}
-use Rattle.cas.proofs.Linearizable.Turn.{StepTurn, WorkerTurn, refused, stayed, thieves_alone}
+use Rattle.cas.proofs.Linearizable.Turn.{StepTurn, WorkerTurn, alone, refused, stayed}
 use Rattle.cas.proofs.Linearizable.Put.{put_load_head_lem, put_store_slot_lem, put_store_tail_lem}
 use Rattle.cas.proofs.Linearizable.Take.{take_load_head_lem, take_load_last_slot, take_load_slot_lem, take_store_tail_lem, take_swap_head_lem, take_tail_past_head_lem, take_tail_to_head_lem}
 
@@ -87,44 +87,37 @@ module _ {n : ℕ} {m : Machine} (q : PlainQueue) where
         (counted_in_asked made m.spacing m.sizes.spacing v.buffer.owed v.spaced)
         (counted_in_most made m.spacing n v.counted) in
         subst (λ c. Quiet v nothing (done Moved (with_worker c (with_store made m)))) (sym at)
-        (record {
-          told = [];
-          told_is = refl;
-          others = thieves_alone m _ refl;
-          sound = sound;
-          turn = λ g.
+        (alone v refl
+          []
+          refl
+          sound
+          (λ g.
               moves {A = AgreesOn sound} refl refl
               (pushed_agrees v room client_store q v.buffer.seen v.buffer.bound refl g.room (le_refl v.buffer.bound) g.below (λ k h. refl)
-              (λ some. past_client no_store) g);
-        })
+              (λ some. past_client no_store) g)))
 
     idle_store : Quiet v nothing (needing (has_room m) m (done Moved (with_store made m)))
     idle_store = decide (Quiet v nothing) (has_room m) stores (λ e. refused v Wait at refl refl)
 
     idle_put : (x : ℕ) → Quiet v (a_put x) (done Moved (with_worker (PutLoadHead x) m))
     idle_put x =
-        record {
-          told = [];
-          told_is = refl;
-          others = thieves_alone m _ refl;
-          sound = recalled v (PutLoadHead x) (record { holds = tt; floor = v.tail.floor; top = v.tail.top }) v.spaced;
-          turn = λ g. moves refl refl (agrees_call refl g.room g);
-        }
+        alone v refl
+          []
+          refl
+          (recalled v (PutLoadHead x) (record { holds = tt; floor = v.tail.floor; top = v.tail.top }) v.spaced)
+          (λ g. moves refl refl (agrees_call refl g.room g))
 
     -- stores are counted from here, and none is due before the take's own store
     begins : too_early m.spacing m.sizes.spacing ≡ false → Quiet v a_take (done Moved (with_worker TakeStoreTail (with_spacing take_begins m)))
     begins late =
-        record {
-          told = [];
-          told_is = refl;
-          others = thieves_alone m _ refl;
-          sound =
-              rebuilt v m.buffer take_begins TakeStoreTail v.buffer
+        alone v refl
+          []
+          refl
+          (rebuilt v m.buffer take_begins TakeStoreTail v.buffer
               (record { holds = tt; floor = v.tail.floor; top = v.tail.top })
               (not_early m.spacing m.sizes.spacing v.buffer.owed late v.spaced, omega arith)
-              (omega arith);
-          turn = λ g. moves refl refl (agrees_call refl g.room g);
-        }
+              (omega arith))
+          (λ g. moves refl refl (agrees_call refl g.room g))
 
     idle_take : Quiet v a_take (cond (too_early m.spacing m.sizes.spacing) (done Early m) (done Moved (with_worker TakeStoreTail (with_spacing take_begins m))))
     idle_take = decide (Quiet v a_take) (too_early m.spacing m.sizes.spacing) (λ e. refused v Early at refl refl) begins
@@ -172,12 +165,11 @@ module _ {n : ℕ} {m : Machine} (q : PlainQueue) where
 
     drains : Quiet v nothing (done Moved (drained m))
     drains =
-        record {
-          told = [];
-          told_is = refl;
-          others = thieves_alone m _ refl;
-          sound = drained_sound;
-          turn = λ g.
+        alone v refl
+          []
+          refl
+          drained_sound
+          (λ g.
               let head = v.head.at in
               moves {A = AgreesOn drained_sound} (λ j. worker_begun (drained_load j (drained_tail j)) m.worker.call) (λ j. worker_owes (drained_load j) m.worker.call)
               (record {
@@ -197,8 +189,7 @@ module _ {n : ℕ} {m : Machine} (q : PlainQueue) where
                       },
                       refl,
                     ));
-              });
-        }
+              }))
 
   pub drain : (v : Holds n m) → Quiet v nothing (entries.drain m)
   drain v =
