@@ -261,7 +261,7 @@ run_in_place calls m (e ∷ es) long same =
       ap (λ c. is_refusal o || begins_alone c (begun_by e)) (same (party_of e)) ∙ k.own.alone,
       ap (λ c. as_long_as_it_may (counting c e o) o) (same (party_of e)) ∙ k.own.in_place,
     )
-    (run_in_place _ (obey m e).machine es (k.long ∙ long) (λ p. next p (same_party p (party_of e)) refl k.own.after (k.others p)))
+    (run_in_place (λ p. cond (same_party p (party_of e)) (unless_answered o (counting (calls (party_of e)) e o)) (calls p)) (obey m e).machine es (k.long ∙ long) (λ p. next p (same_party p (party_of e)) refl k.own.after (k.others p)))
   where
     o : Outcome
     o = (obey m e).outcome

@@ -2,7 +2,7 @@ pub mod Laws
 pub mod Renumbering
 pub mod ExactlyOnce
 pub mod Accounts
-pub mod Hidden
+pub mod HiddenNumber
 pub mod CasRenumbering
 pub mod FfCl
 pub mod CallLength

@@ -13,7 +13,7 @@ use Rattle.machine.proofs.Laws.Hidden.{hidden_out}
 use Rattle.machine.proofs.Laws.Obey.{out_of_range_waits}
 use Rattle.machine.proofs.Linearizable.Theorem.{demand3}
 use Rattle.properties.proofs.ExactlyOnce.{none_lost_or_given_twice}
-use Rattle.properties.proofs.Hidden.{hidden_within_needed}
+use Rattle.properties.proofs.HiddenNumber.{hidden_within_needed}
 use Rattle.properties.proofs.Renumbering.{blind_to_numbers}
 use Rattle.schedule.specs.Types.{Entry, Sizes}
 use Rattle.schedule.specs.Demand3.{AllTold}
