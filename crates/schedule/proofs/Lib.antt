@@ -9,6 +9,6 @@ pub mod Schedules
 pub mod FfThe
 pub mod FfCl
 pub mod Demand3
-pub mod Hidden
+pub mod HiddenNumber
 pub mod Queues
 pub mod Promises

@@ -22,7 +22,7 @@ use Rattle.schedule.proofs.Demand3.{run_linearizes}
 use Rattle.schedule.proofs.Faults.{refused_run_untouched, runner_refuses_faults}
 use Rattle.schedule.proofs.FfCl.{ff_cl_proved}
 use Rattle.schedule.proofs.FfThe.{ff_the_proved}
-use Rattle.schedule.proofs.Hidden.{run_within_needed}
+use Rattle.schedule.proofs.HiddenNumber.{run_within_needed}
 use Rattle.schedule.proofs.Laws.Run as law
 use Rattle.schedule.proofs.Laws.Run.{PartsOf}
 
