@@ -140,7 +140,8 @@ def main():
         new = []
         for line in lines:
             head, slashes, comment = line.partition("//")
-            new.append(re.sub(r'"[^"]*"|' + TOKEN.pattern, swap, head) + slashes + comment)
+            # a name that is in snake case already is Rust's own there
+            new.append(re.sub(r'"[^"]*"|' + TOKEN.pattern, lambda m: swap(m) if "-" in m[0] or CAMEL.match(m[0]) else m[0], head) + slashes + comment)
         open(path, "w", encoding="utf-8").write("\n".join(new))
     for path in glob.glob("crates/*/must-fail/*.edit"):
         lines = open(path, encoding="utf-8").read().split("\n")

@@ -119,7 +119,7 @@ impl ThiefView {
     }
 
     // The call goes on: this step is next.
-    pub(crate) fn goes_on_lem(self, call: ThiefCall) -> ThiefMove
+    pub(crate) fn goes_on(self, call: ThiefCall) -> ThiefMove
         ensures { result ≡ goes_on call self }
     {
         let head = self.head;
@@ -152,7 +152,7 @@ impl ThiefView {
             return self.answers(Outcome::Empty);
         }
         if h.is_below_by_more(tail, self.margin) {
-            return self.goes_on_lem(ThiefCall::StealLoadSlot(h));
+            return self.goes_on(ThiefCall::StealLoadSlot(h));
         }
         self.answers(Outcome::Abort)
     }
@@ -170,7 +170,7 @@ impl ThiefView {
                 outcome: Outcome::Task(task),
             };
         }
-        self.goes_on_lem(ThiefCall::StealLoadHead)
+        self.goes_on(ThiefCall::StealLoadHead)
     }
 }
 
@@ -184,11 +184,11 @@ pub(crate) fn thief_move(view: ThiefView) -> ThiefMove
         ThiefCall::Idle => return view.stays(Outcome::Place),
         ThiefCall::StealLoadHead => {
             let head = view.head;
-            return view.goes_on_lem(ThiefCall::StealLoadTail(head));
+            return view.goes_on(ThiefCall::StealLoadTail(head));
         }
         ThiefCall::StealLoadTail(h) => return view.steal_load_tail(h),
         ThiefCall::StealLoadSlot(h) => {
-            return view.goes_on_lem(ThiefCall::StealSwapHead(view.loaded, h));
+            return view.goes_on(ThiefCall::StealSwapHead(view.loaded, h));
         }
         ThiefCall::StealSwapHead(task, h) => return view.steal_swap_head(task, h),
     }

@@ -165,7 +165,7 @@ impl WorkerView {
     }
 
     // The call goes on: this step is next.
-    pub(crate) fn goes_on_lem(self, call: WorkerCall) -> WorkerMove
+    pub(crate) fn goes_on(self, call: WorkerCall) -> WorkerMove
         ensures { result ≡ goes_on call self }
     {
         let head = self.head;
@@ -228,7 +228,7 @@ impl WorkerView {
         if tail.is_above_by(head, self.slots) {
             return self.answers(Outcome::Full);
         }
-        self.goes_on_lem(WorkerCall::PutStoreSlot(task))
+        self.goes_on(WorkerCall::PutStoreSlot(task))
     }
 
     // Put, step 2: store the task at the tail's index.
@@ -276,12 +276,12 @@ impl WorkerView {
     {
         let head = self.head;
         if !t.at_most(head) {
-            return self.goes_on_lem(WorkerCall::TakeLoadSlot(t));
+            return self.goes_on(WorkerCall::TakeLoadSlot(t));
         }
         if head.at_most(t) {
-            return self.goes_on_lem(WorkerCall::TakeTailPastHead(t));
+            return self.goes_on(WorkerCall::TakeTailPastHead(t));
         }
-        self.goes_on_lem(WorkerCall::TakeTailToHead(head))
+        self.goes_on(WorkerCall::TakeTailToHead(head))
     }
 
     // Take, step 3 where t is below head: store head as the tail, and answer.

@@ -71,7 +71,7 @@ fn next_answer(
 }
 
 // Whether an entry of one trace has the outcome and the value of an entry of another; each trace with its number of entries.
-fn same_line_lem(
+fn same_line(
     entries: usize,
     trace: &[u8],
     at: usize,
@@ -168,7 +168,7 @@ fn same_for_all(
 }
 
 // Runs two schedules with the same sizes, each given by the two parts of its file, into traces of its own, and answers whether no party's answers differ.
-fn same_runs_lem(
+fn same_runs(
     sizes: Sizes,
     kinds: &[u8],
     operands: &[u8],
@@ -211,7 +211,7 @@ pub fn alike(first: &[u8], second: &[u8]) -> Likeness
         let operands = operand_part(first, reading);
         let other_kinds = kind_part(second, other);
         let other_operands = operand_part(second, other);
-        if same_runs_lem(sizes, kinds, operands, other_kinds, other_operands) {
+        if same_runs(sizes, kinds, operands, other_kinds, other_operands) {
             return Likeness::Alike;
         }
     }

@@ -27,7 +27,7 @@ pub(crate) fn worker_entry(view: WorkerView, entry: Entry, early: bool) -> Worke
             if call.runs() {
                 return view.stays(Outcome::Place);
             }
-            return view.goes_on_lem(WorkerCall::PutLoadHead(task));
+            return view.goes_on(WorkerCall::PutLoadHead(task));
         }
         Entry::BeginTake => {
             if call.runs() {
@@ -36,7 +36,7 @@ pub(crate) fn worker_entry(view: WorkerView, entry: Entry, early: bool) -> Worke
             if early {
                 return view.stays(Outcome::Early);
             }
-            return view.goes_on_lem(WorkerCall::TakeStoreTail);
+            return view.goes_on(WorkerCall::TakeStoreTail);
         }
         Entry::Drain | Entry::BeginSteal(_) | Entry::ThiefStep(_) => return view.stays(
             Outcome::Wait,
@@ -54,7 +54,7 @@ pub(crate) fn thief_entry(view: ThiefView, entry: Entry) -> ThiefMove
         Entry::BeginSteal(_) => {
             let call = view.call;
             if let ThiefCall::Idle = call {
-                return view.goes_on_lem(ThiefCall::StealLock);
+                return view.goes_on(ThiefCall::StealLock);
             }
             return view.stays(Outcome::Place);
         }

@@ -156,7 +156,7 @@ impl ThiefView {
     }
 
     // The call goes on: this step is next.
-    pub(crate) fn goes_on_lem(self, call: ThiefCall) -> ThiefMove
+    pub(crate) fn goes_on(self, call: ThiefCall) -> ThiefMove
         ensures { result ≡ goes_on call self }
     {
         let head = self.head;
@@ -189,9 +189,9 @@ impl ThiefView {
     {
         let tail = self.tail;
         if h.is_below_by_more(tail, self.margin) {
-            return self.goes_on_lem(ThiefCall::StealLoadSlot(h));
+            return self.goes_on(ThiefCall::StealLoadSlot(h));
         }
-        self.goes_on_lem(ThiefCall::StealRestoreHead(h))
+        self.goes_on(ThiefCall::StealRestoreHead(h))
     }
 
     // Steal, step 6: unlock, and answer.
@@ -221,7 +221,7 @@ pub(crate) fn thief_move(view: ThiefView) -> ThiefMove
         ThiefCall::StealLock => return view.steal_lock(),
         ThiefCall::StealLoadHead => {
             let head = view.head;
-            return view.goes_on_lem(ThiefCall::StealRaiseHead(head));
+            return view.goes_on(ThiefCall::StealRaiseHead(head));
         }
         ThiefCall::StealRaiseHead(h) => {
             let above = h.next();
@@ -229,7 +229,7 @@ pub(crate) fn thief_move(view: ThiefView) -> ThiefMove
         }
         ThiefCall::StealLoadTail(h) => return view.steal_load_tail(h),
         ThiefCall::StealLoadSlot(_) => {
-            return view.goes_on_lem(ThiefCall::StealUnlockTask(view.loaded));
+            return view.goes_on(ThiefCall::StealUnlockTask(view.loaded));
         }
         ThiefCall::StealUnlockTask(task) => return view.steal_unlock(Outcome::Task(task)),
         ThiefCall::StealRestoreHead(h) => return view.heads(h, ThiefCall::StealUnlockAbort),

@@ -158,7 +158,7 @@ impl WorkerView {
     }
 
     // The call goes on: this step is next.
-    pub(crate) fn goes_on_lem(self, call: WorkerCall) -> WorkerMove
+    pub(crate) fn goes_on(self, call: WorkerCall) -> WorkerMove
         ensures { result ≡ goes_on call self }
     {
         let lock = self.lock;
@@ -236,7 +236,7 @@ impl WorkerView {
         if tail.is_above_by(head, self.slots - 1) {
             return self.answers(Outcome::Full);
         }
-        self.goes_on_lem(WorkerCall::PutStoreSlot(task))
+        self.goes_on(WorkerCall::PutStoreSlot(task))
     }
 
     // Put, step 2: store the task at the tail's index.
@@ -284,9 +284,9 @@ impl WorkerView {
     {
         let head = self.head;
         if head.at_most(t) {
-            return self.goes_on_lem(WorkerCall::TakeLoadSlot(t));
+            return self.goes_on(WorkerCall::TakeLoadSlot(t));
         }
-        self.goes_on_lem(WorkerCall::TakeLock(t))
+        self.goes_on(WorkerCall::TakeLock(t))
     }
 
     // Take, step 3 where t is below head: lock.
@@ -311,9 +311,9 @@ impl WorkerView {
         let head = self.head;
         let above = t.next();
         if above.at_most(head) {
-            return self.goes_on_lem(WorkerCall::TakeRestoreTail(t));
+            return self.goes_on(WorkerCall::TakeRestoreTail(t));
         }
-        self.goes_on_lem(WorkerCall::TakeUnlockTask(t))
+        self.goes_on(WorkerCall::TakeUnlockTask(t))
     }
 
     // Take, step 5 where the task is gone: store the old tail.
