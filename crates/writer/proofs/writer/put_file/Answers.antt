@@ -1,0 +1,12 @@
+-- the three parts are written one behind the other, and together they are the file
+use Rattle.std.proofs.Common.{length, arith}
+use Rattle.schedule.proofs.Laws.Entries.{entries_bytes}
+use Rattle.writer.proofs.Laws.Writer.{file_written, passed_writable}
+use Rattle.writer.proofs.writer.put_file.Goals as goal
+
+pub returns : goal.returns
+returns c =
+    let a = c.args in
+    let right = passed_writable a.sizes a.kinds.now a.operands.now (length a.buffer.now) c.requires in
+    let bytes = entries_bytes a.sizes a.kinds.now a.operands.now right.each in
+    file_written a.sizes a.kinds.now a.operands.now bytes right.parallel a.buffer.now _ _ _ right.fits c.put_sizes.ensures c.put_bytes.ensures c.put_words.ensures
