@@ -1,22 +1,36 @@
-use Rattle.std.proofs.Common.{rules, ◌≡◌, ◌+◌, ◌*◌, ◌-◌, ◌≤◌, ◌<◌, length, ℕ, ◌/◌, ◌%◌, Bool, true, false, nat_eq, nat_lt, List, [], ◌∷◌, ◌++◌, slice_index_or, slice_set, bit_and, bit_or, Fits, w8, w32, w64, Bor, MutBor}
-use Rattle.comparison.specs.Alike.{LikenessRefuses, likeness, same_line, same_sizes}
-use Rattle.comparison.specs.Comparison.{answered, first_from, same_for, same_for_all, same_runs}
+use Rattle.std.proofs.Common.{◌≡◌, ◌∙◌, length, refl, ap, sym, arith, false}
+use Rattle.terms.specs.Kinds.{party_number}
+use Rattle.terms.proofs.Laws.Tests.{known}
 use Rattle.schedule.specs.Format.{words_in}
-use Rattle.schedule.specs.Trace.{line_in}
+use Rattle.comparison.specs.Comparison.{answered}
+use Rattle.comparison.proofs.Laws.Comparison.{answered_another, answered_for, answered_none, first_end, first_further, first_here}
+use Rattle.comparison.proofs.likeness.next_answer.Goals.{then-is_answer+else-party, else-is_answer}
 use Rattle.comparison.proofs.likeness.next_answer.Goals as goal
 
--- src/likeness.rt:61:5
 pub loop-at-init : goal.loop-at-init
-loop-at-init c = ?
+loop-at-init c = (refl, c.requires.1)
 
--- src/likeness.rt:65:17
 pub returns-then-party : goal.returns-then-party
-returns-then-party c = ?
+returns-then-party c =
+    let a = c.args in
+    let at = c.loop-at.at in
+    let here = answered_for a.party a.sizes a.kinds.now (words_in a.operands.now) a.trace.now at c.loop-at-test.true
+    _ (c.party.ensures ∙ ap party_number c.entry_at-entry.ensures) (known c.is_answer.ensures c.if-is_answer.true) c.if-party.true in
+    sym (c.loop-at.invariant.0 ∙ first_here (answered a.party a.sizes a.kinds.now (words_in a.operands.now) a.trace.now) (length a.kinds.now) at c.loop-at-test.true here)
 
--- src/likeness.rt:61:5
 pub loop-at-preserved : goal.loop-at-preserved
-loop-at-preserved c = ?
+loop-at-preserved c =
+    let a = c.args in
+    let at = c.loop-at.at in
+    let test = answered a.party a.sizes a.kinds.now (words_in a.operands.now) a.trace.now in
+    let none = answered_none a.party a.sizes a.kinds.now (words_in a.operands.now) a.trace.now at c.loop-at-test.true in
+    let another = answered_another a.party a.sizes a.kinds.now (words_in a.operands.now) a.trace.now at c.loop-at-test.true in
+    let further : test at ≡ false = elim c.if-is_answer.branch [
+      then-is_answer+else-party w ↦ another _ (w.party.ensures ∙ ap party_number w.entry_at-entry.ensures) (known c.is_answer.ensures w.if-is_answer.true) w.if-party.false
+      | else-is_answer w ↦ none (known c.is_answer.ensures w.if-is_answer.false) ] in
+    (c.loop-at.invariant.0 ∙ first_further test (length a.kinds.now) at c.loop-at-test.true further, omega arith)
 
--- src/likeness.rt:49:1
 pub returns : goal.returns
-returns c = ?
+returns c =
+    let a = c.args in
+    sym (c.loop-at.invariant.0 ∙ first_end (answered a.party a.sizes a.kinds.now (words_in a.operands.now) a.trace.now) (length a.kinds.now) c.loop-at.at c.loop-at-test.false)

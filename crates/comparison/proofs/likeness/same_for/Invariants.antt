@@ -1,13 +1,11 @@
-use Rattle.std.proofs.Common.{length, ◌-◌, ◌≡◌, ◌+◌, ◌*◌, ◌≤◌, ◌<◌, ℕ}
-use Rattle.comparison.specs.Alike.{LikenessRefuses, likeness, same_line, same_sizes}
-use Rattle.comparison.specs.Comparison.{answered, first_from, same_for, same_for_all, same_runs}
+-- both places are answers of the party, or the end, and what is left of the two runs decides
+use Rattle.std.proofs.Common.{◌-◌, length}
 use Rattle.schedule.specs.Format.{words_in}
-use Rattle.schedule.specs.Trace.{line_in}
+use Rattle.comparison.proofs.Laws.Comparison.{Compared}
 use Rattle.comparison.proofs.likeness.same_for.Given as goal
 
 abbrev pub invariant-loop-at : goal.invariant-loop-at
-invariant-loop-at l = ?
+invariant-loop-at l = Compared l.party l.sizes l.kinds (words_in l.operands) l.trace l.other_kinds (words_in l.other_operands) l.other_trace l.at l.there
 
--- proposed from the loop's first test
 abbrev pub decreases-loop-at : goal.decreases-loop-at
 decreases-loop-at l = length l.kinds - l.at

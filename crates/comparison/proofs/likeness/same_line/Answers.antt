@@ -1,14 +1,20 @@
-use Rattle.std.proofs.Common.{rules, ◌≡◌, ◌+◌, ◌*◌, ◌-◌, ◌≤◌, ◌<◌, length, ℕ, ◌/◌, ◌%◌, Bool, true, false, nat_eq, nat_lt, List, [], ◌∷◌, ◌++◌, slice_index_or, slice_set, bit_and, bit_or, Fits, w8, w32, w64, Bor, MutBor}
-use Rattle.comparison.specs.Alike.{LikenessRefuses, likeness, same_line, same_sizes}
-use Rattle.comparison.specs.Comparison.{answered, first_from, same_for, same_for_all, same_runs}
-use Rattle.schedule.specs.Format.{words_in}
-use Rattle.schedule.specs.Trace.{line_in}
+-- outcomes that differ decide, else the values do
+use Rattle.std.proofs.Common.{◌∙◌, sym}
+use lib.Dec.{eqb}
+use Rattle.comparison.proofs.Laws.Comparison.{same_line_differ, same_line_values}
 use Rattle.comparison.proofs.likeness.same_line.Goals as goal
 
--- src/likeness.rt:87:9
 pub returns-then-trace-at : goal.returns-then-trace-at
-returns-then-trace-at c = ?
+returns-then-trace-at c =
+    let a = c.args in
+    let one = c.requires.entries_in_bounds in
+    let two = c.requires.others_in_bounds in
+    sym (same_line_differ a.entries a.trace.now a.at a.others a.other_trace.now a.there one.1 one.0 two.1 two.0 c.if-trace-at.true)
 
--- src/likeness.rt:74:1
 pub returns : goal.returns
-returns c = ?
+returns c =
+    let a = c.args in
+    let one = c.requires.entries_in_bounds in
+    let two = c.requires.others_in_bounds in
+    (λ i. eqb (c.word_at-value.ensures i) (c.word_at.ensures i))
+    ∙ sym (same_line_values a.entries a.trace.now a.at a.others a.other_trace.now a.there one.1 one.0 two.1 two.0 c.if-trace-at.false)
