@@ -10,32 +10,35 @@
 // - `tags`: an entry, a store or a call in progress, as a tag with what it holds;
 // - `image`: a machine as bytes.
 #![tactic(auto)]
+
 mod image;
 mod tags;
 
 use image::{IMAGE_BYTES, Response, machine_in, put_machine};
 use number::{put_word, word_at};
 use schedule::{Check, Queue};
+use std::io;
+use std::io::{ErrorKind, Read};
 use terms::{Sizes, Tally};
 
 // The longest request, without the five bytes in front.
 const REQUEST_ROOM: usize = 65536;
 
 // Writes a length.
-fn write_length(length: usize) {
+fn write_length(rt: &impl Print, length: usize) -> io::Result<()> {
     let mut word = [0; 4];
     put_word(&mut word, 0, (length % 4294967296) as u32);
-    io::write_all(1, &word);
+    rt.write_all(&word)
 }
 
 // Writes the response to `o`.
-fn write_step(response: &Response) {
-    io::write_all(1, response);
+fn write_step(rt: &impl Print, response: &Response) -> io::Result<()> {
+    rt.write_all(response)
 }
 
 // `o`, one step of a run. Given are the image of a machine, three totals, and an entry's kind, which is a byte, and operand. The response
 // is the outcome's number, which is a byte, and value, the totals, how many stores of take step 1 are pending, and the image of the machine.
-fn answer_step(request: &[u8]) {
+fn answer_step(rt: &impl Print, request: &[u8]) -> io::Result<()> {
     let tally = Tally {
         given: word_at(request, IMAGE_BYTES),
         aborts: word_at(request, IMAGE_BYTES + 4),
@@ -54,16 +57,16 @@ fn answer_step(request: &[u8]) {
     put_word(&mut response, 17, done.tally.waits);
     put_word(&mut response, 21, done.hidden);
     put_machine(&mut response, done.machine);
-    write_step(&response);
+    write_step(rt, &response)
 }
 
 // Writes a response of a byte and a number.
-fn write_pair(byte: u8, number: u32) {
+fn write_pair(rt: &impl Print, byte: u8, number: u32) -> io::Result<()> {
     let mut response = [0; 9];
     response[0] = 5;
     response[4] = byte;
     put_word(&mut response, 5, number);
-    io::write_all(1, &response);
+    rt.write_all(&response)
 }
 
 // The six sizes that a request lends, at its front.
@@ -80,11 +83,11 @@ fn lent_sizes(request: &[u8]) -> Sizes {
 
 // `e`, the entry to obey at a place of two parts. Given are six sizes, the place, how many kinds there are, the kinds, and the operands. The response is the entry's kind,
 // which is a byte, and its operand.
-fn answer_entry(request: &[u8]) {
+fn answer_entry(rt: &impl Print, request: &[u8]) -> io::Result<()> {
     let at = word_at(request, 24) as usize;
     let operands = 32 + word_at(request, 28) as usize;
     if request.len() < operands {
-        return write_length(0);
+        return write_length(rt, 0);
     }
     let entry = schedule::entry_at(
         lent_sizes(request),
@@ -93,15 +96,15 @@ fn answer_entry(request: &[u8]) {
         at,
     );
     let told = tags::of_entry(entry);
-    write_pair((told.0 % 256) as u8, told.2);
+    write_pair(rt, (told.0 % 256) as u8, told.2)
 }
 
 // `c`, the check of the entries of two parts. Given are six sizes, how many kinds there are, the kinds, and the operands. The response is the refusal's number, which is a
 // byte, and its place; or two numbers 0.
-fn answer_check(request: &[u8]) {
+fn answer_check(rt: &impl Print, request: &[u8]) -> io::Result<()> {
     let operands = 28 + word_at(request, 24) as usize;
     if request.len() < operands {
-        return write_length(0);
+        return write_length(rt, 0);
     }
     let checked = schedule::check_entries(
         lent_sizes(request),
@@ -109,8 +112,9 @@ fn answer_check(request: &[u8]) {
         &request[operands..],
     );
     match checked {
-        Check::Passed => write_pair(0, 0),
+        Check::Passed => write_pair(rt, 0, 0),
         Check::Failed(refusal) => write_pair(
+            rt,
             refusal.number(),
             (refusal.place() % 4294967296) as u32,
         ),
@@ -118,65 +122,81 @@ fn answer_check(request: &[u8]) {
 }
 
 // `p`, the two parts of a file. The response is how many kinds there are, the kinds, and the operands.
-fn answer_parts(file: &[u8]) {
+fn answer_parts(rt: &impl Print, file: &[u8]) -> io::Result<()> {
     let reading = schedule::read(file);
     let kinds = schedule::kind_part(file, reading);
     let operands = schedule::operand_part(file, reading);
-    write_length(std::num::wrapping_add_usize(4, kinds.len() + operands.len()));
-    write_length(kinds.len());
-    io::write_all(1, kinds);
-    io::write_all(1, operands);
+    write_length(rt, 4usize.wrapping_add(kinds.len() + operands.len()))?;
+    write_length(rt, kinds.len())?;
+    rt.write_all(kinds)?;
+    rt.write_all(operands)
 }
 
 // `l` and `s`, the lines that are printed for a file, by the program of the queue with a lock and by that of the one with compare-and-swap.
-fn answer_lines(queue: Queue, file: &[u8]) {
+fn answer_lines(rt: &impl Print, queue: Queue, file: &[u8]) -> io::Result<()> {
     let text = lines::lines_of(queue, file);
     let end = text.length;
     let bytes = text.bytes;
-    write_length(end);
-    io::write_all(1, &bytes[0..end]);
+    write_length(rt, end)?;
+    rt.write_all(&bytes[0..end])
 }
 
 // Answers a request. One that names no function gets an empty response.
-fn answer(name: u8, request: &[u8]) {
+fn answer(rt: &impl Print, name: u8, request: &[u8]) -> io::Result<()> {
     match name {
-        b'o' => answer_step(request),
-        b'e' => answer_entry(request),
-        b'c' => answer_check(request),
-        b'p' => answer_parts(request),
-        b'l' => answer_lines(Queue::FfThe, request),
-        b's' => answer_lines(Queue::FfCl, request),
-        _ => write_length(0),
+        b'o' => answer_step(rt, request),
+        b'e' => answer_entry(rt, request),
+        b'c' => answer_check(rt, request),
+        b'p' => answer_parts(rt, request),
+        b'l' => answer_lines(rt, Queue::FfThe, request),
+        b's' => answer_lines(rt, Queue::FfCl, request),
+        _ => write_length(rt, 0),
+    }
+}
+
+// Fills the bytes with what is next on standard input. Whether there were so many.
+fn read_whole(rt: &impl Input, bytes: &mut [u8]) -> io::Result<bool> {
+    let mut reader = rt.reader();
+    match reader.read_exact(bytes) {
+        Ok(()) => Ok(true),
+        Err(error) => {
+            if error.kind() == ErrorKind::UnexpectedEof {
+                return Ok(false);
+            }
+            Err(error)
+        }
     }
 }
 
 // Reads the rest of a request, and answers it. Whether it was all there.
-fn answer_rest(name: u8, request: &mut [u8]) -> bool {
-    if io::read_full(0, request) < request.len() {
-        return false;
+fn answer_rest<R: Input + Print>(rt: &R, name: u8, request: &mut [u8]) -> io::Result<bool> {
+    if !read_whole(rt, request)? {
+        return Ok(false);
     }
-    answer(name, request);
-    true
+    answer(rt, name, request)?;
+    Ok(true)
 }
 
 // Answers the next request. Whether there was one, and not too long.
-fn answer_next() -> bool {
+fn answer_next<R: Input + Print>(rt: &R) -> io::Result<bool> {
     let mut head = [0; 5];
-    if io::read_full(0, &mut head) < 5 {
-        return false;
+    if !read_whole(rt, &mut head)? {
+        return Ok(false);
     }
     let length = word_at(&head, 1) as usize;
     if REQUEST_ROOM < length {
-        return false;
+        return Ok(false);
     }
     let mut request = [0; REQUEST_ROOM];
-    answer_rest(head[0], &mut request[0..length])
+    answer_rest(rt, head[0], &mut request[0..length])
 }
 
-fn main() {
+fn main(rt: HostRuntime) -> io::Result<()> {
     // More requests than anybody sends: a loop has to end.
-    let mut left = u64::MAX;
-    while left > 0 && answer_next() {
-        left -= 1;
+    for _ in 0..u64::MAX {
+        if !answer_next(&rt)? {
+            break;
+        }
     }
+    Ok(())
 }

@@ -1,7 +1,9 @@
 // The program: a schedule file on standard input is rehearsed on FF-THE, the queue with a lock (`program`).
 #![tactic(auto)]
-use schedule::Queue;
 
-fn main() {
-    program::rehearse(Queue::FfThe);
+use schedule::Queue;
+use std::io;
+
+fn main(rt: HostRuntime) -> io::Result<()> {
+    program::rehearse(&rt, Queue::FfThe)
 }

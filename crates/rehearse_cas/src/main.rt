@@ -1,7 +1,9 @@
 // The program of the compare-and-swap queue: a schedule file on standard input is rehearsed on FF-CL (`program`).
 #![tactic(auto)]
-use schedule::Queue;
 
-fn main() {
-    program::rehearse(Queue::FfCl);
+use schedule::Queue;
+use std::io;
+
+fn main(rt: HostRuntime) -> io::Result<()> {
+    program::rehearse(&rt, Queue::FfCl)
 }
