@@ -1,7 +1,7 @@
 //! Links the static library of exported functions.
 //!
 //! `REHEARSAL_LIB_DIR` names the directory that holds `libexports.a`; without
-//! it the directory is `target/staticlib` at the root of the repository.
+//! it the directory is `crates/exports/out`, where `rt lib` puts it.
 
 use std::env;
 use std::path::PathBuf;
@@ -17,5 +17,5 @@ fn main() {
 
 fn default_directory() -> PathBuf {
     let package = env::var_os("CARGO_MANIFEST_DIR").expect("cargo names the package's directory");
-    PathBuf::from(package).join("../../target/staticlib")
+    PathBuf::from(package).join("../../crates/exports/out")
 }

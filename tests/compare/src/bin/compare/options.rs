@@ -42,10 +42,10 @@ pub fn options() -> Result<Options, String> {
         seed: clock_seed(),
         cases: 200_000,
         programs: ByQueue::new(|queue| match queue {
-            Queue::Locking => PathBuf::from("target/bin/rehearse"),
-            Queue::Swapping => PathBuf::from("target/bin/rehearse_cas"),
+            Queue::Locking => PathBuf::from("crates/rehearse/out/rehearse"),
+            Queue::Swapping => PathBuf::from("crates/rehearse_cas/out/rehearse_cas"),
         }),
-        operations: PathBuf::from("target/bin/operations"),
+        operations: PathBuf::from("crates/operations/out/operations"),
         library_only: false,
         only: None,
         examples: Vec::new(),
