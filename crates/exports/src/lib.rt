@@ -28,6 +28,7 @@
 // - `answer`: a refusal as one number, and numbers put into lent memory;
 // - `interface`: the exported functions.
 #![tactic(auto)]
+
 mod answer;
 mod interface;
 
