@@ -4,30 +4,35 @@
 // or a write that fails ends the program with that error.
 #![tactic(auto)]
 
-ghost use Rattle.std.specs.Prelude.{◌≤◌, length, IfOk};
+ghost use Rattle.std.specs.Prelude.{◌≤◌, ◌<◌, length, take, IfOk, IfSome, OnOk};
+ghost use Rattle.std.specs.Io.KnownBytes.{Appends, Consumes, IsAtEnd};
+ghost use Rattle.lines.specs.Lines.{lines_of};
 
 use schedule::Queue;
 use std::io;
-use std::io::Read;
+use std::io::{Read, Write};
 
 // One byte more than the longest file has. A longer input is kept so far and is then longer than any file: it is refused, never cut to
 // one, and as the whole of it would be (`lines`, `specs/Input.antt`).
 const INPUT_ROOM: usize = 20509;
 
-// Runs the file on a queue.
-pub fn rehearse<R: Input + Print>(rt: &R, queue: Queue) -> io::Result<()> {
+// Runs the file that the reader gives on a queue, and writes the lines of its run.
+pub fn rehearse<R: Read, W: Write>(reader: &mut R, writer: &mut W, queue: Queue) -> io::Result<()>
+    ensures { OnOk result (IfSome (R.remaining reader.old) (λ input. Appends (W.contents writer.old) (W.contents writer.new) (lines_of queue input))) }
+{
     let mut input = [0; INPUT_ROOM];
-    let mut reader = rt.reader();
-    let length = read_full(&mut reader, &mut input)?;
+    let length = read_full(reader, &mut input)?;
     let text = lines::lines_of(queue, &input[..length]);
     let end = text.length;
     let bytes = text.bytes;
-    rt.write_all(&bytes[..end])
+    writer.write_all(&bytes[..end])
 }
 
 // Reads until the buffer is full or the input ends. How many bytes it put at the start of the buffer.
-fn read_full(reader: &mut impl Read, buffer: &mut [u8]) -> io::Result<usize>
-    ensures { IfOk result (λ filled. filled ≤ length buffer.new) }
+fn read_full<R: Read>(reader: &mut R, buffer: &mut [u8]) -> io::Result<usize>
+    ensures bound { IfOk result (λ filled. filled ≤ length buffer.new) }
+    ensures bytes { IfOk result (λ filled. Consumes (R.remaining reader.old) (R.remaining reader.new) (take filled buffer.new)) }
+    ensures end { IfOk result (λ filled. filled < length buffer.new → IsAtEnd (R.remaining reader.new)) }
 {
     let mut filled = 0;
     while filled < buffer.len() {

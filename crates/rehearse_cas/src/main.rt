@@ -5,5 +5,5 @@ use schedule::Queue;
 use std::io;
 
 fn main(rt: HostRuntime) -> io::Result<()> {
-    program::rehearse(&rt, Queue::FfCl)
+    program::rehearse(&mut rt.reader(), &mut io::writer(&rt), Queue::FfCl)
 }
