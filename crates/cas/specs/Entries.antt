@@ -1,6 +1,6 @@
 -- An entry obeyed, and a list of them: the steps of `Worker` and `Thief` on the machine, a drain, a client store and the beginnings, which are 01's. Renders, of 01's "The machine", the drain and when the spacing count begins anew, of "Parts" what an
 -- operation does first, and of "The numbers" 5, 6 and 7 and their order; and of request 4, in 02, for which machine a number is handed on.
-use Rattle.std.specs.Prelude.{◌≡◌, Bool, true, false, cond, not, ◌&&◌, List, ℕ, ◌≤◌, length}
+use Rattle.std.specs.Prelude.{◌≡◌, true, false, cond, not, ◌&&◌, List, ℕ, ◌≤◌, length}
 use Rattle.terms.specs.Kinds.{thief_is_there}
 use Rattle.terms.specs.Lists.{after, each}
 use Rattle.terms.specs.Outcome.{is_refusal}

@@ -1,7 +1,7 @@
 -- How the rows of the compare-and-swap queue's tables are told: what a row looks at in its machine, steals and takes in a word, and two sizes. The rest of a row's words is of any queue (`Stories`, of `claim`).
 use Rattle.std.specs.Prelude.{Bool, List, [], ◌∷◌, ◌++◌, ℕ, eqb, get_or}
 use Rattle.terms.specs.Sizes.{sized}
-use Rattle.claim.specs.Stories.{Line, Looks, Row, does, head_is, tail_is, slot_is, count_is, drains, holds, thief_gets, thief_moves, worker_gets, worker_moves}
+use Rattle.claim.specs.Stories.{Line, Looks, Row, does, drains, holds, thief_gets, thief_moves, worker_gets, worker_moves}
 use Rattle.stores.specs.Index.{eq_z}
 use Rattle.cas.specs.Types.{BeginTake, BeginSteal, ThiefStep, Machine, Outcome, Moved, Task, Empty, Sizes}
 use Rattle.cas.specs.Machine.{in_range}

@@ -21,6 +21,7 @@
 //
 // Types and functions have the names that they have in `machine`; what both machines are made of is in `stores`.
 #![tactic(auto)]
+
 mod moves;
 mod obey;
 mod state;

@@ -6,6 +6,7 @@
 //
 // - `margins`: the constants, the chart as a whole, and one margin looked up in it.
 #![tactic(auto)]
+
 mod margins;
 
 pub use margins::{NEEDED_MARGINS, chart, charted_margin};

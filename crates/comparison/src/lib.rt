@@ -7,6 +7,7 @@
 //
 // What is promised is `likeness` (`specs/Alike.antt`); that alike is equality of sizes and answers is a theorem beside it.
 #![tactic(auto)]
+
 mod likeness;
 
 pub use likeness::{Likeness, alike};

@@ -7,6 +7,7 @@
 // - `text`: numbers and other text put one behind the other;
 // - `lines`: one line of each sort, and all of them.
 #![tactic(auto)]
+
 mod lines;
 mod text;
 

@@ -29,6 +29,7 @@
 // An operation hands back the machine, the entry's outcome, and how far memory lags behind the worker there: how many
 // stores are pending by which takes have lowered the tail.
 #![tactic(auto)]
+
 mod look;
 mod machine;
 mod moves;

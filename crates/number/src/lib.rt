@@ -4,6 +4,7 @@
 // None asks anything of its caller: where the bytes do not all lie within those that are handed in, the number is 0, and
 // nothing is put.
 #![tactic(auto)]
+
 mod arrays;
 mod word;
 

@@ -9,7 +9,7 @@ use lib.Dec.{ltb}
 use lib.ListN.{get_or, length, replicate, take}
 use lib.Seq.{take-length, take-suc}
 use borrow.Author.Tests.{le-ltb}
-use Rattle.terms.specs.Kinds.{kind_of, operand_of, thief_is_there}
+use Rattle.terms.specs.Kinds.{kind_of, operand_of}
 use Rattle.terms.specs.Lists.{largest}
 use Rattle.terms.specs.Tally.{counted, none_counted}
 use Rattle.terms.proofs.Laws.Runs.{each_there}

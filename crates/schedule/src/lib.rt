@@ -25,6 +25,7 @@
 // - `reader`: a file as a whole, and its two parts;
 // - `runner`: one step, the entries of two parts, and a file run with its trace.
 #![tactic(auto)]
+
 mod check;
 mod entries;
 mod layout;

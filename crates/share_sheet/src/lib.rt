@@ -15,6 +15,7 @@
 // - `shares`: what a trace says of each block;
 // - `sheet`: the sheet as a whole.
 #![tactic(auto)]
+
 mod blocks;
 mod shares;
 mod sheet;

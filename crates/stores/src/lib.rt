@@ -10,6 +10,7 @@
 // - `look`: what an operation has to know of a machine first, by one pass over the pending stores: whether all is in range, the worker's tail,
 //   and how far memory lags; and how far it lags after an entry.
 #![tactic(auto)]
+
 mod index;
 mod load;
 mod lock;

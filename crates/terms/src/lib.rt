@@ -9,6 +9,7 @@
 // - `kinds`: what a kind byte and its operand mean: an entry, or a refusal;
 // - `tally`: how many entries had each of three outcomes; an outcome is counted by value, or in a tally that is lent.
 #![tactic(auto)]
+
 mod entry;
 mod kinds;
 mod outcome;

@@ -10,6 +10,7 @@
 // - `entries`: the first faulty entry of two arrays;
 // - `writer`: a file as a whole.
 #![tactic(auto)]
+
 mod entries;
 mod writer;
 

@@ -1,6 +1,5 @@
 -- Every entry of a party is a move of it: refused, or performed part by part. So the code decides the entries of a party in one place, and knows by the outcome alone that the machine is handed back as it was.
 use mathlib.Core.Path.{◌≡◌, refl, ap, sym, ◌∙◌}
-use mathlib.Core.List.{◌∷◌, []}
 use mathlib.Core.Bool.{true, false≢true, cond, ◌&&◌}
 use Prim.Native.Nat.{◌≤◌, ◌<◌}
 use lib.Dec.{ltb}

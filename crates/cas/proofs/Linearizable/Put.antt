@@ -54,12 +54,12 @@ module _ {n : ℕ} {m : Machine} (q : PlainQueue) where
     ended at-end =
         let last = eqb-true v.buffer.seen 2147483648 (known at_end_is at-end) in
         alone v refl
-          (told_put x false ∷ [])
-          refl
-          idle
-          (λ g.
-              answers_at_once (replies_end q x false (omega (arith, g.sum))) (rw (eq-eqb q.sum 2147483647 (omega (arith, g.sum)))) refl refl
-              (agrees_call refl g.room g))
+        (told_put x false ∷ [])
+        refl
+        idle
+        (λ g.
+        answers_at_once (replies_end q x false (omega (arith, g.sum))) (rw (eq-eqb q.sum 2147483647 (omega (arith, g.sum)))) refl refl
+        (agrees_call refl g.room g))
 
     -- all slots are filled
     full : at_end (worker_view m (PutLoadHead x)) ≡ false → is_full (worker_view m (PutLoadHead x)) ≡ true → MoveTurn v q (answers Full (worker_view m (PutLoadHead x)))
@@ -67,12 +67,12 @@ module _ {n : ℕ} {m : Machine} (q : PlainQueue) where
         let not_last = eqb-false v.buffer.seen 2147483648 (known at_end_is not-ended) in
         let close = leb-true (m.sizes.slots + v.head.at) v.buffer.seen (known is_full_is no_room) in
         alone v refl
-          (told_put x true ∷ [])
-          refl
-          idle
-          (λ g.
-              answers_at_once (replies_full q x (λ e. not_last (omega (arith, g.sum)))) (le-leb m.sizes.slots (length q.tasks) (omega (arith, g.count))) refl refl
-              (agrees_call refl g.room g))
+        (told_put x true ∷ [])
+        refl
+        idle
+        (λ g.
+        answers_at_once (replies_full q x (λ e. not_last (omega (arith, g.sum)))) (le-leb m.sizes.slots (length q.tasks) (omega (arith, g.count))) refl refl
+        (agrees_call refl g.room g))
 
     -- the slot of the tail is free, and stays so, for head never goes back
     passed : at_end (worker_view m (PutLoadHead x)) ≡ false → is_full (worker_view m (PutLoadHead x)) ≡ false → MoveTurn v q (goes_on (PutStoreSlot x) (worker_view m (PutLoadHead x)))
@@ -80,10 +80,10 @@ module _ {n : ℕ} {m : Machine} (q : PlainQueue) where
         let not_last = eqb-false v.buffer.seen 2147483648 (known at_end_is not-ended) in
         let far = leb-false (m.sizes.slots + v.head.at) v.buffer.seen (known is_full_is some-room) in
         alone v refl
-          []
-          refl
-          (recalled v (PutStoreSlot x) (record { holds = tt; floor = v.tail.floor; top = omega (arith, v.tail.top) }) v.spaced)
-          (λ g. moves refl refl (agrees_call refl (omega arith) g))
+        []
+        refl
+        (recalled v (PutStoreSlot x) (record { holds = tt; floor = v.tail.floor; top = omega (arith, v.tail.top) }) v.spaced)
+        (λ g. moves refl refl (agrees_call refl (omega arith) g))
 
     pub put_load_head_lem : StepTurn v q (step_of_worker m (PutLoadHead x))
     put_load_head_lem =
@@ -119,16 +119,16 @@ module _ {n : ℕ} {m : Machine} (q : PlainQueue) where
         (counted_in_most made m.spacing n v.counted) in
         subst (λ i. MoveTurn v q (making (One APut (Slot x i)) Moved PutStoreTail m)) (sym (seen_tail v.buffer))
         (alone v refl
-          []
-          refl
-          sound
-          (λ g.
-              let long : head + length q.tasks ≡ seen = omega (arith, g.count) in
-              let fits : seen + 1 ≤ head + m.sizes.slots = omega (arith, g.room) in
-              moves {A = AgreesOn sound} (ap a_put (ap (worker_load m') tail ∙ filled)) refl
-              (pushed_agrees v room a q seen bound refl g.room (omega arith) (omega (arith, g.below))
-              (λ k h. slot_after_apart m.sizes.slots head seen (head + k) x _ floor (omega arith) (omega arith) (omega arith) (omega arith) (λ same. omega arith))
-              (λ some. between seen x (omega arith) low no_store) g)))
+        []
+        refl
+        sound
+        (λ g.
+        let long : head + length q.tasks ≡ seen = omega (arith, g.count) in
+        let fits : seen + 1 ≤ head + m.sizes.slots = omega (arith, g.room) in
+        moves {A = AgreesOn sound} (ap a_put (ap (worker_load m') tail ∙ filled)) refl
+        (pushed_agrees v room a q seen bound refl g.room (omega arith) (omega (arith, g.below))
+        (λ k h. slot_after_apart m.sizes.slots head seen (head + k) x _ floor (omega arith) (omega arith) (omega arith) (omega arith) (λ same. omega arith))
+        (λ some. between seen x (omega arith) low no_store) g)))
 
     pub put_store_slot_lem : StepTurn v q (step_of_worker m (PutStoreSlot x))
     put_store_slot_lem = decide (MoveTurn v q) (has_room m) stores_slot (λ e. stayed v Wait refl refl)
@@ -148,32 +148,32 @@ module _ {n : ℕ} {m : Machine} (q : PlainQueue) where
         let t : StoredTask = record { put = q.stored; number = x } in
         subst (λ i. MoveTurn v q (making (One APut (Tail i)) Stored WorkerCall.Idle m)) (sym (ap next (seen_tail v.buffer) ∙ idx_next seen))
         (alone v refl
-          (told_put x false ∷ [])
-          refl
-          (rebuilt v (push a m.buffer) (counted_in made m.spacing) WorkerCall.Idle
-              (raising v.buffer v.sizes room (seen + 1) (omega arith) (omega (arith, v.tail.top)))
-              (record { holds = tt; floor = omega (arith, v.tail.floor); top = omega (arith, v.tail.top) })
-              (counted_in_asked made m.spacing m.sizes.spacing v.buffer.owed v.spaced)
-              (counted_in_most made m.spacing n v.counted))
-          (λ g.
-              let below_end : q.sum ≡ 2147483647 → ⊥ = λ e. omega (arith, g.sum, v.tail.top) in
-              let end : seen ≡ head + length q.tasks = omega (arith, g.count) in
-              answers_at_once (replies_stored q x below_end)
-              (rw (ne_eqb q.sum 2147483647 below_end) (lt-ltb (length q.tasks) m.sizes.slots (omega (arith, g.count, g.room)))) refl refl
-              (record {
-                enough = g.enough;
-                count = simp length-append (omega (arith, g.count));
-                sum = omega (arith, g.sum);
-                room = omega (arith, g.room);
-                below = g.below;
-                shows =
-                    pushed_shows v room a (counted_in made m.spacing) WorkerCall.Idle (q.tasks ++ (t ∷ [])) (λ k h. refl)
-                    (shows_joined (λ k. worker_load m (idx k)) head q.tasks g.shows t (ap (worker_load m) (seen_tail v.buffer ∙ ap idx end)));
-                sure = λ i.
-                    sure_tasks m.head head v.buffer.bound (memory_load m (idx head)) (pending (push a m.buffer)) q.tasks (q.tasks ++ (t ∷ [])) (thief_call m i)
-                    (λ some. (simp length-append (omega arith), sym (get_or-append q.tasks (t ∷ []) (record { put = 0; number = 0 }) 0 some)))
-                    (pushed_sure v room a q v.buffer.bound (le_refl v.buffer.bound) (λ some. past_tail no_store) g i);
-              })))
+        (told_put x false ∷ [])
+        refl
+        (rebuilt v (push a m.buffer) (counted_in made m.spacing) WorkerCall.Idle
+        (raising v.buffer v.sizes room (seen + 1) (omega arith) (omega (arith, v.tail.top)))
+        (record { holds = tt; floor = omega (arith, v.tail.floor); top = omega (arith, v.tail.top) })
+        (counted_in_asked made m.spacing m.sizes.spacing v.buffer.owed v.spaced)
+        (counted_in_most made m.spacing n v.counted))
+        (λ g.
+        let below_end : q.sum ≡ 2147483647 → ⊥ = λ e. omega (arith, g.sum, v.tail.top) in
+        let end : seen ≡ head + length q.tasks = omega (arith, g.count) in
+        answers_at_once (replies_stored q x below_end)
+        (rw (ne_eqb q.sum 2147483647 below_end) (lt-ltb (length q.tasks) m.sizes.slots (omega (arith, g.count, g.room)))) refl refl
+        (record {
+          enough = g.enough;
+          count = simp length-append (omega (arith, g.count));
+          sum = omega (arith, g.sum);
+          room = omega (arith, g.room);
+          below = g.below;
+          shows =
+              pushed_shows v room a (counted_in made m.spacing) WorkerCall.Idle (q.tasks ++ (t ∷ [])) (λ k h. refl)
+              (shows_joined (λ k. worker_load m (idx k)) head q.tasks g.shows t (ap (worker_load m) (seen_tail v.buffer ∙ ap idx end)));
+          sure = λ i.
+              sure_tasks m.head head v.buffer.bound (memory_load m (idx head)) (pending (push a m.buffer)) q.tasks (q.tasks ++ (t ∷ [])) (thief_call m i)
+              (λ some. (simp length-append (omega arith), sym (get_or-append q.tasks (t ∷ []) (record { put = 0; number = 0 }) 0 some)))
+              (pushed_sure v room a q v.buffer.bound (le_refl v.buffer.bound) (λ some. past_tail no_store) g i);
+        })))
 
     pub put_store_tail_lem : StepTurn v q (step_of_worker m PutStoreTail)
     put_store_tail_lem = decide (MoveTurn v q) (has_room m) stores_tail (λ e. stayed v Wait refl refl)

@@ -49,10 +49,10 @@ module _ {n : ℕ} {m : Machine} (q : PlainQueue) where
         (omega (arith, v.counted)) in
         subst (λ i. MoveTurn v q (making (One ATake (Tail i)) Moved (TakeLoadHead i) m)) (sym (ap previous (seen_tail v.buffer) ∙ idx_previous seen positive))
         (alone v refl
-          []
-          refl
-          sound
-          (λ g. moves {A = AgreesOn sound} refl refl (tail_agrees v room q (seen - 1) (omega arith) refl g)))
+        []
+        refl
+        sound
+        (λ g. moves {A = AgreesOn sound} refl refl (tail_agrees v room q (seen - 1) (omega arith) refl g)))
 
     pub take_store_tail_lem : StepTurn v q (step_of_worker m TakeStoreTail)
     take_store_tail_lem = decide (MoveTurn v q) (has_room m) lowers (λ e. stayed v Wait refl refl)
@@ -90,37 +90,37 @@ module _ {n : ℕ} {m : Machine} (q : PlainQueue) where
         let apart : is_head t (worker_view m (TakeLoadHead t)) ≡ false = is_head_is ∙ ne_eqb seen head (λ e. omega arith) in
         let sound = recalled v (TakeLoadSlot t) (record { holds = v.tail.holds; floor = omega (arith, v.head.floor, v.head.reached); top = omega (arith, v.tail.top) }) v.spaced in
         alone v refl
-          (told_take false ∷ [])
-          (ap (λ b. told_of a_take (only_where (not b) false)) (sym apart))
-          sound
-          (λ g.
-              let two : 1 < length q.tasks = omega (arith, g.count) in
-              let last : head + (length q.tasks - 1) ≡ seen = omega (arith, g.count) in
-              let number : (task_at q.tasks (length q.tasks - 1)).number ≡ worker_load m t =
-              g.shows (length q.tasks - 1) (omega arith) ∙ ap (λ k. worker_load m (idx k)) last ∙ ap (worker_load m) (sym v.tail.holds) in
-              takes_effect {A = AgreesOn sound} (replies_taken q false (omega arith)) refl refl (ap (λ x. Task x ∷ []) (sym number))
-              (record {
-                enough = g.enough;
-                count = simp length-take (omega (arith, g.count));
-                sum = omega (arith, g.sum, g.count);
-                room = omega (arith, g.room);
-                below = g.below;
-                shows = shows_taken (λ k. worker_load m (idx k)) head q.tasks g.shows;
-                sure = λ i.
-                    sure_tasks m.head head v.buffer.bound (memory_load m (idx head)) (pending m.buffer) q.tasks (after_take q false).tasks (thief_call m i)
-                    (λ some. (simp length-take (omega arith), sym (get_or-take (length q.tasks - 1) q.tasks 0 (record { put = 0; number = 0 }) (omega arith))))
-                    (g.sure i);
-              }))
+        (told_take false ∷ [])
+        (ap (λ b. told_of a_take (only_where (not b) false)) (sym apart))
+        sound
+        (λ g.
+        let two : 1 < length q.tasks = omega (arith, g.count) in
+        let last : head + (length q.tasks - 1) ≡ seen = omega (arith, g.count) in
+        let number : (task_at q.tasks (length q.tasks - 1)).number ≡ worker_load m t =
+        g.shows (length q.tasks - 1) (omega arith) ∙ ap (λ k. worker_load m (idx k)) last ∙ ap (worker_load m) (sym v.tail.holds) in
+        takes_effect {A = AgreesOn sound} (replies_taken q false (omega arith)) refl refl (ap (λ x. Task x ∷ []) (sym number))
+        (record {
+          enough = g.enough;
+          count = simp length-take (omega (arith, g.count));
+          sum = omega (arith, g.sum, g.count);
+          room = omega (arith, g.room);
+          below = g.below;
+          shows = shows_taken (λ k. worker_load m (idx k)) head q.tasks g.shows;
+          sure = λ i.
+              sure_tasks m.head head v.buffer.bound (memory_load m (idx head)) (pending m.buffer) q.tasks (after_take q false).tasks (thief_call m i)
+              (λ some. (simp length-take (omega arith), sym (get_or-take (length q.tasks - 1) q.tasks 0 (record { put = 0; number = 0 }) (omega arith))))
+              (g.sure i);
+        }))
 
     -- t is head: the swap will decide
     doubts : is_head t (worker_view m (TakeLoadHead t)) ≡ true → MoveTurn v q (goes_on (TakeTailPastHead t) (worker_view m (TakeLoadHead t)))
     doubts equal =
         let here : v.buffer.seen ≡ v.head.at = eqb-true v.buffer.seen v.head.at (known is_head_is equal) in
         alone v refl
-          []
-          (ap (λ b. told_of a_take (only_where (not b) false)) (sym equal))
-          (recalled looked (TakeTailPastHead t) (record { holds = (v.tail.holds ∙ ap idx here, here); floor = v.tail.floor; top = v.tail.top }) v.spaced)
-          (λ g. moves refl refl (agrees_call refl g.room g))
+        []
+        (ap (λ b. told_of a_take (only_where (not b) false)) (sym equal))
+        (recalled looked (TakeTailPastHead t) (record { holds = (v.tail.holds ∙ ap idx here, here); floor = v.tail.floor; top = v.tail.top }) v.spaced)
+        (λ g. moves refl refl (agrees_call refl g.room g))
 
     -- t is below head: no task stands
     finds_none : is_above_head t (worker_view m (TakeLoadHead t)) ≡ false → is_head t (worker_view m (TakeLoadHead t)) ≡ false
@@ -131,10 +131,10 @@ module _ {n : ℕ} {m : Machine} (q : PlainQueue) where
         let low = ltb-false head seen (known is_above_head_is not_above) in
         let apart : seen ≡ head → ⊥ = eqb-false seen head (known is_head_is not_equal) in
         alone v refl
-          (told_take false ∷ [])
-          (ap (λ b. told_of a_take (only_where (not b) false)) (sym not_equal))
-          (recalled looked (TakeTailToHead m.head) (record { holds = (v.head.is, omega arith); floor = v.tail.floor; top = v.tail.top }) v.spaced)
-          (λ g. takes_effect (replies_empty q false (omega (arith, g.count))) refl refl refl (agrees_call refl g.room g))
+        (told_take false ∷ [])
+        (ap (λ b. told_of a_take (only_where (not b) false)) (sym not_equal))
+        (recalled looked (TakeTailToHead m.head) (record { holds = (v.head.is, omega arith); floor = v.tail.floor; top = v.tail.top }) v.spaced)
+        (λ g. takes_effect (replies_empty q false (omega (arith, g.count))) refl refl refl (agrees_call refl g.room g))
 
     pub take_load_head_lem : StepTurn v q (step_of_worker m (TakeLoadHead t))
     take_load_head_lem =
@@ -166,10 +166,10 @@ module _ {n : ℕ} {m : Machine} (q : PlainQueue) where
         (omega (arith, v.counted)) in
         subst (λ i. MoveTurn v q (making (One ATake (Tail i)) Empty WorkerCall.Idle m)) (sym v.tail.holds.0)
         (alone v refl
-          []
-          refl
-          sound
-          (λ g. ends {A = AgreesOn sound} refl refl (tail_agrees v room q saw (omega (arith, g.count, v.head.reached)) refl g)))
+        []
+        refl
+        sound
+        (λ g. ends {A = AgreesOn sound} refl refl (tail_agrees v room q saw (omega (arith, g.count, v.head.reached)) refl g)))
 
     pub take_tail_to_head_lem : StepTurn v q (step_of_worker m (TakeTailToHead h))
     take_tail_to_head_lem = decide (MoveTurn v q) (has_room m) restores (λ e. stayed v Wait refl refl)
@@ -190,10 +190,10 @@ module _ {n : ℕ} {m : Machine} (q : PlainQueue) where
         (omega (arith, v.counted)) in
         subst (λ i. MoveTurn v q (making (One ATake (Tail i)) Moved (TakeSwapHead t) m)) (sym (ap next v.tail.holds.0 ∙ idx_next saw))
         (alone v refl
-          []
-          refl
-          sound
-          (λ g. moves {A = AgreesOn sound} refl refl (tail_agrees v room q (saw + 1) (omega arith) refl g)))
+        []
+        refl
+        sound
+        (λ g. moves {A = AgreesOn sound} refl refl (tail_agrees v room q (saw + 1) (omega arith) refl g)))
 
     pub take_tail_past_head_lem : StepTurn v q (step_of_worker m (TakeTailPastHead t))
     take_tail_past_head_lem = decide (MoveTurn v q) (has_room m) puts_back (λ e. stayed v Wait refl refl)
@@ -225,25 +225,25 @@ module _ {n : ℕ} {m : Machine} (q : PlainQueue) where
           aims = λ i. aim_of_raised m.sizes.start head (thief_call m i) (v.aims i);
         } in
         alone v refl
-          (told_take by_swap ∷ [])
-          refl
-          sound
-          (λ g.
-              let one : length q.tasks ≡ 1 = omega (arith, g.count) in
-              let last : head + (length q.tasks - 1) ≡ v.head.saw = omega arith in
-              let number : (task_at q.tasks (length q.tasks - 1)).number ≡ worker_load m t =
-              g.shows (length q.tasks - 1) (omega arith) ∙ ap (λ k. worker_load m (idx k)) last ∙ ap (worker_load m) (sym v.tail.holds.0) in
-              let none_left : length (after_take q by_swap).tasks ≡ 0 = simp length-take (omega arith) in
-              takes_effect {A = AgreesOn sound} (replies_taken q by_swap (omega arith)) refl refl (ap (λ x. Task x ∷ []) (sym number))
-              (record {
-                enough = g.enough;
-                count = omega arith;
-                sum = g.sum;
-                room = omega (arith, g.room);
-                below = omega (arith, g.below);
-                shows = λ k h. absurd (omega arith);
-                sure = λ i. sure_raised m.sizes.start head _ _ raised (thief_call m i) (v.aims i);
-              }))
+        (told_take by_swap ∷ [])
+        refl
+        sound
+        (λ g.
+        let one : length q.tasks ≡ 1 = omega (arith, g.count) in
+        let last : head + (length q.tasks - 1) ≡ v.head.saw = omega arith in
+        let number : (task_at q.tasks (length q.tasks - 1)).number ≡ worker_load m t =
+        g.shows (length q.tasks - 1) (omega arith) ∙ ap (λ k. worker_load m (idx k)) last ∙ ap (worker_load m) (sym v.tail.holds.0) in
+        let none_left : length (after_take q by_swap).tasks ≡ 0 = simp length-take (omega arith) in
+        takes_effect {A = AgreesOn sound} (replies_taken q by_swap (omega arith)) refl refl (ap (λ x. Task x ∷ []) (sym number))
+        (record {
+          enough = g.enough;
+          count = omega arith;
+          sum = g.sum;
+          room = omega (arith, g.room);
+          below = omega (arith, g.below);
+          shows = λ k h. absurd (omega arith);
+          sure = λ i. sure_raised m.sizes.start head _ _ raised (thief_call m i) (v.aims i);
+        }))
 
     -- a thief was faster
     loses : is_head t (worker_view m (TakeSwapHead t)) ≡ false → MoveTurn v q (answers Empty (worker_view m (TakeSwapHead t)))
@@ -251,11 +251,11 @@ module _ {n : ℕ} {m : Machine} (q : PlainQueue) where
         let apart : v.head.saw ≡ v.head.at → ⊥ = eqb-false v.head.saw v.head.at (known still_is gone) in
         let past : v.buffer.seen ≡ v.head.saw + 1 = v.tail.holds.1 in
         alone v refl
-          (told_take by_swap ∷ [])
-          refl
-          (recalled v WorkerCall.Idle (record { holds = tt; floor = v.tail.floor; top = v.tail.top }) v.spaced)
-          (λ g.
-              answers_at_once (replies_empty q by_swap (omega (arith, g.count, v.head.reached))) refl refl refl (agrees_call refl g.room g))
+        (told_take by_swap ∷ [])
+        refl
+        (recalled v WorkerCall.Idle (record { holds = tt; floor = v.tail.floor; top = v.tail.top }) v.spaced)
+        (λ g.
+        answers_at_once (replies_empty q by_swap (omega (arith, g.count, v.head.reached))) refl refl refl (agrees_call refl g.room g))
 
     pub take_swap_head_lem : StepTurn v q (step_of_worker m (TakeSwapHead t))
     take_swap_head_lem =

@@ -76,10 +76,10 @@ module _ {n : ℕ} {m : Machine} {c : WorkerCall} (v : Sound n m c) {q : PlainQu
     pub stayed : (o : Outcome) → is_refusal o ≡ true → is_answer o ≡ false → TurnTo v q next f o (perform_worker m (stays o (worker_view m c))).machine
     stayed o refusal no_answer =
         alone v refl
-          []
-          (rw refusal)
-          (recalled v c v.tail v.spaced)
-          (λ g. refuses refusal no_answer refl refl (agrees_call refl g.room g))
+        []
+        (rw refusal)
+        (recalled v c v.tail v.spaced)
+        (λ g. refuses refusal no_answer refl refl (agrees_call refl g.room g))
 
     -- .. and so does any other entry
     pub refused : (o : Outcome) → m.worker.call ≡ c → is_refusal o ≡ true → is_answer o ≡ false → TurnTo v q next f o m
@@ -93,7 +93,7 @@ module _ {n : ℕ} {m : Machine} {c : WorkerCall} (v : Sound n m c) {q : PlainQu
       → MoveTurn v q (answers o (worker_view m c))
   answers_owed o answer told_is owed level still spaced =
       alone v refl
-        []
-        told_is
-        (recalled v WorkerCall.Idle (record { holds = tt; floor = omega (arith, v.tail.floor); top = omega (arith, v.tail.top) }) spaced)
-        (λ g. ends answer owed (agrees_call level (omega (arith, g.room)) g))
+      []
+      told_is
+      (recalled v WorkerCall.Idle (record { holds = tt; floor = omega (arith, v.tail.floor); top = omega (arith, v.tail.top) }) spaced)
+      (λ g. ends answer owed (agrees_call level (omega (arith, g.room)) g))

@@ -88,13 +88,13 @@ module _ {n : ℕ} {m : Machine} (q : PlainQueue) where
         (counted_in_most made m.spacing n v.counted) in
         subst (λ c. Quiet v nothing (done Moved (with_worker c (with_store made m)))) (sym at)
         (alone v refl
-          []
-          refl
-          sound
-          (λ g.
-              moves {A = AgreesOn sound} refl refl
-              (pushed_agrees v room client_store q v.buffer.seen v.buffer.bound refl g.room (le_refl v.buffer.bound) g.below (λ k h. refl)
-              (λ some. past_client no_store) g)))
+        []
+        refl
+        sound
+        (λ g.
+        moves {A = AgreesOn sound} refl refl
+        (pushed_agrees v room client_store q v.buffer.seen v.buffer.bound refl g.room (le_refl v.buffer.bound) g.below (λ k h. refl)
+        (λ some. past_client no_store) g)))
 
     idle_store : Quiet v nothing (needing (has_room m) m (done Moved (with_store made m)))
     idle_store = decide (Quiet v nothing) (has_room m) stores (λ e. refused v Wait at refl refl)
@@ -102,22 +102,22 @@ module _ {n : ℕ} {m : Machine} (q : PlainQueue) where
     idle_put : (x : ℕ) → Quiet v (a_put x) (done Moved (with_worker (PutLoadHead x) m))
     idle_put x =
         alone v refl
-          []
-          refl
-          (recalled v (PutLoadHead x) (record { holds = tt; floor = v.tail.floor; top = v.tail.top }) v.spaced)
-          (λ g. moves refl refl (agrees_call refl g.room g))
+        []
+        refl
+        (recalled v (PutLoadHead x) (record { holds = tt; floor = v.tail.floor; top = v.tail.top }) v.spaced)
+        (λ g. moves refl refl (agrees_call refl g.room g))
 
     -- stores are counted from here, and none is due before the take's own store
     begins : too_early m.spacing m.sizes.spacing ≡ false → Quiet v a_take (done Moved (with_worker TakeStoreTail (with_spacing take_begins m)))
     begins late =
         alone v refl
-          []
-          refl
-          (rebuilt v m.buffer take_begins TakeStoreTail v.buffer
-              (record { holds = tt; floor = v.tail.floor; top = v.tail.top })
-              (not_early m.spacing m.sizes.spacing v.buffer.owed late v.spaced, omega arith)
-              (omega arith))
-          (λ g. moves refl refl (agrees_call refl g.room g))
+        []
+        refl
+        (rebuilt v m.buffer take_begins TakeStoreTail v.buffer
+        (record { holds = tt; floor = v.tail.floor; top = v.tail.top })
+        (not_early m.spacing m.sizes.spacing v.buffer.owed late v.spaced, omega arith)
+        (omega arith))
+        (λ g. moves refl refl (agrees_call refl g.room g))
 
     idle_take : Quiet v a_take (cond (too_early m.spacing m.sizes.spacing) (done Early m) (done Moved (with_worker TakeStoreTail (with_spacing take_begins m))))
     idle_take = decide (Quiet v a_take) (too_early m.spacing m.sizes.spacing) (λ e. refused v Early at refl refl) begins
@@ -166,30 +166,30 @@ module _ {n : ℕ} {m : Machine} (q : PlainQueue) where
     drains : Quiet v nothing (done Moved (drained m))
     drains =
         alone v refl
-          []
-          refl
-          drained_sound
-          (λ g.
-              let head = v.head.at in
-              moves {A = AgreesOn drained_sound} (λ j. worker_begun (drained_load j (drained_tail j)) m.worker.call) (λ j. worker_owes (drained_load j) m.worker.call)
-              (record {
-                enough = g.enough;
-                count = g.count;
-                sum = g.sum;
-                room = g.room;
-                below = g.below;
-                shows = shows_load (λ k. worker_load m (idx k)) head q.tasks g.shows (λ k. worker_load (drained m) (idx k)) (λ k h j. drained_load j (idx (head + k)));
-                sure = λ i.
-                    sure_map m.head (thief_call m i) (g.sure i)
-                    (λ s. (
-                      record {
-                        some = s.some;
-                        above = lands.within head s.above;
-                        number = s.number ∙ sym (lands.leaves head (omega (arith, v.head.floor, v.head.reached)) g.below (slot_there (idx head)) s.above);
-                      },
-                      refl,
-                    ));
-              }))
+        []
+        refl
+        drained_sound
+        (λ g.
+        let head = v.head.at in
+        moves {A = AgreesOn drained_sound} (λ j. worker_begun (drained_load j (drained_tail j)) m.worker.call) (λ j. worker_owes (drained_load j) m.worker.call)
+        (record {
+          enough = g.enough;
+          count = g.count;
+          sum = g.sum;
+          room = g.room;
+          below = g.below;
+          shows = shows_load (λ k. worker_load m (idx k)) head q.tasks g.shows (λ k. worker_load (drained m) (idx k)) (λ k h j. drained_load j (idx (head + k)));
+          sure = λ i.
+              sure_map m.head (thief_call m i) (g.sure i)
+              (λ s. (
+                record {
+                  some = s.some;
+                  above = lands.within head s.above;
+                  number = s.number ∙ sym (lands.leaves head (omega (arith, v.head.floor, v.head.reached)) g.below (slot_there (idx head)) s.above);
+                },
+                refl,
+              ));
+        }))
 
   pub drain : (v : Holds n m) → Quiet v nothing (entries.drain m)
   drain v =

@@ -5,7 +5,7 @@ use Rattle.terms.proofs.Laws.Tests.{known}
 use Rattle.schedule.specs.Format.{words_in}
 use Rattle.schedule.specs.Reader.{kind_part, operand_part, read_file}
 use Rattle.schedule.proofs.Laws.Run.{parts_obeyed}
-use Rattle.comparison.specs.Types.{Accepted, Alike, NotAlike, Reading, Sizes}
+use Rattle.comparison.specs.Types.{Accepted, Alike, NotAlike, Sizes}
 use Rattle.comparison.specs.Alike.{likeness, likeness_of, same_answers, same_sizes}
 use Rattle.comparison.specs.Comparison.{same_runs}
 use Rattle.comparison.proofs.Laws.Alike.{same_files, same_sizes_lem}

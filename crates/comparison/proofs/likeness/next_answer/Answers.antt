@@ -26,8 +26,9 @@ loop-at-preserved c =
     let none = answered_none a.party a.sizes a.kinds.now (words_in a.operands.now) a.trace.now at c.loop-at-test.true in
     let another = answered_another a.party a.sizes a.kinds.now (words_in a.operands.now) a.trace.now at c.loop-at-test.true in
     let further : test at ≡ false = elim c.if-is_answer.branch [
-      then-is_answer+else-party w ↦ another _ (w.party.ensures ∙ ap party_number w.entry_at-entry.ensures) (known c.is_answer.ensures w.if-is_answer.true) w.if-party.false
-      | else-is_answer w ↦ none (known c.is_answer.ensures w.if-is_answer.false) ] in
+      | then-is_answer+else-party w ↦ another _ (w.party.ensures ∙ ap party_number w.entry_at-entry.ensures) (known c.is_answer.ensures w.if-is_answer.true) w.if-party.false
+      | else-is_answer w ↦ none (known c.is_answer.ensures w.if-is_answer.false)
+    ] in
     (c.loop-at.invariant.0 ∙ first_further test (length a.kinds.now) at c.loop-at-test.true further, omega arith)
 
 pub returns : goal.returns

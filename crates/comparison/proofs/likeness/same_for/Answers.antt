@@ -1,4 +1,4 @@
-use Rattle.std.proofs.Common.{◌≤◌, ◌<◌, length, sym, arith}
+use Rattle.std.proofs.Common.{◌<◌, length, sym, arith}
 use native.Mathlib.Nat.{le_of_eq}
 use Rattle.schedule.specs.Format.{words_in}
 use Rattle.terms.proofs.Laws.Tests.{known}

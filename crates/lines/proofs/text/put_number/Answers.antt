@@ -1,4 +1,4 @@
-use Rattle.std.proofs.Common.{◌≡◌, ◌+◌, [], ◌∷◌, refl, ap, sym, arith, get_or, take}
+use Rattle.std.proofs.Common.{◌≡◌, [], ◌∷◌, refl, ap, sym, arith, get_or, take}
 use Rattle.terms.specs.Lists.{concat_map}
 use Rattle.number.proofs.Laws.Overwritten.{overwritten_one}
 use Rattle.lines.specs.Text.{decimal, digit, units}

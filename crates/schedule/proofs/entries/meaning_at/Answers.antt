@@ -1,5 +1,5 @@
 -- the two tests say whether the entry is there, and the four bytes of its operand are that number of the operand array
-use Rattle.std.proofs.Common.{◌≡◌, ◌∙◌, ap, sym, get_or}
+use Rattle.std.proofs.Common.{◌∙◌, ap, sym, get_or}
 use Rattle.terms.specs.Kinds.{entry_of}
 use Rattle.schedule.specs.Format.{words_in}
 use Rattle.schedule.proofs.Laws.Entries.{entry_at_bytes, entry_at_no_operand}

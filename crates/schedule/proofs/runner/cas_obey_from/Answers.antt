@@ -1,4 +1,4 @@
-use Rattle.std.proofs.Common.{◌∙◌, refl, ap}
+use Rattle.std.proofs.Common.{refl, ap}
 use Rattle.schedule.proofs.Laws.Obeyed.{obeyed_all, obeyed_more, obeyed_none}
 use Rattle.schedule.proofs.runner.cas_obey_from.Goals as goal
 

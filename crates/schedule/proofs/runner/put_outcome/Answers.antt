@@ -1,10 +1,10 @@
 -- a store keeps the length, and is one place overwritten
-use Rattle.std.proofs.Common.{◌≡◌, ◌∙◌, ◌+◌, ◌*◌, ◌≤◌, [], ◌∷◌, length, set, ap, sym, arith, length-set}
+use Rattle.std.proofs.Common.{◌∙◌, ◌+◌, ◌*◌, ◌≤◌, [], ◌∷◌, length, set, ap, sym, arith, length-set}
 use Rattle.number.specs.Number.{little_endian, overwritten}
 use Rattle.number.proofs.Laws.Overwritten.{overwritten_one}
 use Rattle.number.proofs.Laws.Words.{put_there}
 use Rattle.terms.proofs.Laws.Tests.{by_test, known}
-use Rattle.schedule.proofs.Laws.Run.{fits_few, fits_room}
+use Rattle.schedule.proofs.Laws.Run.{fits_room}
 use Rattle.schedule.proofs.runner.put_outcome.Goals as goal
 
 pub returns-then-trace_fits : goal.returns-then-trace_fits

@@ -1,15 +1,12 @@
 -- what the reading is decides, then the room; and demand 3 is a theorem about what it then writes
-use Rattle.std.proofs.Common.{◌≡◌, ◌∙◌, ◌<◌, ℕ, List, length, refl, ap, sym, arith, get_or, true}
+use Rattle.std.proofs.Common.{◌∙◌, length, ap, sym, arith}
 use Rattle.terms.proofs.Laws.Tests.{known}
 use Rattle.schedule.specs.Types.{Ran}
-use Rattle.schedule.specs.declared.runner.Running.TheVariants as running
-use Rattle.schedule.specs.Format.{all_below}
-use Rattle.schedule.specs.Reader.{refusal_of}
 use Rattle.schedule.specs.Run.{trace_put}
-use Rattle.schedule.proofs.Promises.{refusal_promises, run_promises}
-use Rattle.schedule.proofs.Queues.{parts_outcomes, parts_summary, run_refused, run_with_room, run_without_room, trace_after_run}
+use Rattle.schedule.proofs.Promises.{run_promises}
+use Rattle.schedule.proofs.Queues.{parts_outcomes, parts_summary, run_with_room, trace_after_run}
 use Rattle.schedule.proofs.Laws.Bytes.{each_below}
-use Rattle.schedule.proofs.Laws.Run.{fits_not, fits_room, parts_obeyed}
+use Rattle.schedule.proofs.Laws.Run.{fits_room, parts_obeyed}
 use Rattle.schedule.proofs.runner.run_on.Goals as goal
 
 pub returns : goal.returns

@@ -16,7 +16,7 @@ use Rattle.share_sheet.specs.Sheet.{checks_after_reading, share_of}
 use Rattle.share_sheet.specs.Types.{Passed, Sizes}
 use Rattle.share_sheet.proofs.Laws.Given.{block_values_fit, given_once}
 use Rattle.share_sheet.proofs.Laws.Shares.{given_wider, trace_of_lem}
-use Rattle.share_sheet.proofs.Laws.Sheet.{Fit, party_most, passed_fit, sheet_written, take_blocks}
+use Rattle.share_sheet.proofs.Laws.Sheet.{party_most, passed_fit, sheet_written, take_blocks}
 use Rattle.share_sheet.proofs.sheet.put_sheet.Goals as goal
 
 -- ── What has been checked ───────────────────────────────────────────────────────────────────────────────────────────────────

@@ -1,5 +1,5 @@
 -- the three parts are written one behind the other, and together they are the file
-use Rattle.std.proofs.Common.{length, arith}
+use Rattle.std.proofs.Common.{length}
 use Rattle.schedule.proofs.Laws.Entries.{entries_bytes}
 use Rattle.writer.proofs.Laws.Writer.{file_written, passed_writable}
 use Rattle.writer.proofs.writer.put_file.Goals as goal

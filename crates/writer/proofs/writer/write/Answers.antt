@@ -1,5 +1,5 @@
 -- what the checks found decides what is answered
-use Rattle.std.proofs.Common.{◌≡◌, ◌+◌, ◌*◌, length, ap, sym}
+use Rattle.std.proofs.Common.{◌+◌, ◌*◌, length, ap, sym}
 use Rattle.terms.proofs.Laws.Tests.{known}
 use Rattle.writer.specs.Writer.{writing_of}
 use Rattle.writer.proofs.Faults.{write_promises}

@@ -1,5 +1,5 @@
 -- the start is an index as it is, and a store of what an array holds everywhere changes nothing
-use Rattle.std.proofs.Common.{◌≡◌, refl, ap, false, List, ◌%◌, arith, ℤ, set}
+use Rattle.std.proofs.Common.{false, List, ◌%◌, arith, ℤ}
 use Rattle.std.proofs.Math.ListN.{replicate}
 use Rattle.terms.proofs.Laws.Lists.{set_same}
 use Rattle.stores.proofs.Laws.Words.{number_small, small_read}

@@ -1,7 +1,7 @@
 -- Where the machine is in range and the thief there, each party's entry is what its move comes to.
-use Rattle.std.proofs.Common.{◌≡◌, ◌∙◌, ◌<◌, ◌&&◌, ℕ, Bool, true, false, length, refl, ap, sym, arith, cond}
+use Rattle.std.proofs.Common.{◌≡◌, ◌∙◌, ◌<◌, ◌&&◌, ℕ, Bool, true, length, ap, sym, arith, cond}
 use mathlib.Core.Bool.{not}
-use borrow.Author.Tests.{eq-eqb, ne_eqb}
+use borrow.Author.Tests.{ne_eqb}
 use lib.Dec.{ltb}
 use Rattle.terms.specs.Kinds.{thief_of}
 use Rattle.terms.specs.Outcome.{is_refusal}
@@ -13,7 +13,7 @@ use Rattle.stores.specs.Spacing.{spacing_after}
 use Rattle.stores.specs.StoreBuffer.{drop_oldest, oldest, pushed_in, pushed_or_same, slots_after, tail_after}
 use Rattle.stores.proofs.Laws.Look.{newest_tail_in_range_lem, pending_within}
 use Rattle.stores.proofs.Laws.StoreBuffer.{drop_oldest_some, fits_more, other_store_leaves, pushed_free}
-use Rattle.cas.specs.Types.{Drain, Entry, Look, Machine, Moved, Nothing, Spacing, ThiefMove, Wait, WorkerMove}
+use Rattle.cas.specs.Types.{Drain, Entry, Look, Machine, Moved, Nothing, Spacing, Wait, WorkerMove}
 use Rattle.cas.specs.Machine.{done, handing, hidden, in_range, look, thief_call, with_buffer, with_head, with_memory, with_spacing, with_worker}
 use Rattle.cas.specs.Worker.{WorkerViewInRange, worker_in_range}
 use Rattle.cas.specs.Entries.{drained, obey, obey_in_range, perform_thief, thief_view, worker_view}

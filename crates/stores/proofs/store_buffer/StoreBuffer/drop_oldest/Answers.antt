@@ -1,12 +1,12 @@
 -- only a buffer with a store to drop is changed
 use Rattle.std.proofs.Common.{◌≡◌, ◌∙◌, ◌+◌, ◌-◌, ◌≤◌, ◌∷◌, ◌++◌, suc, length, take, drop, set, get_or, refl, ap, sym, arith}
-use mathlib.Core.Bool.{Bool, true, false, false≢true, ◌&&◌, ◌||◌}
+use mathlib.Core.Bool.{true, ◌&&◌}
 use lib.Dec.{leb, ltb}
-use borrow.Author.Tests.{le-leb, leb-true, lt-ltb, ltb-true}
+use borrow.Author.Tests.{leb-true, ltb-true}
 use Rattle.stores.specs.Types.{StoreBuffer}
-use Rattle.stores.specs.StoreBuffer.{client_store, drop_oldest_or_same}
-use Rattle.stores.proofs.Laws.StoreBuffer.{drop_oldest_some, drops}
-use Rattle.terms.proofs.Laws.Tests.{and_left, and_right, by_test}
+use Rattle.stores.specs.StoreBuffer.{client_store}
+use Rattle.stores.proofs.Laws.StoreBuffer.{drop_oldest_some}
+use Rattle.terms.proofs.Laws.Tests.{and_left, and_right}
 use Rattle.terms.proofs.Laws.Lists.{set_shifted, shifted, shifted_more, take_drop_one}
 use Rattle.stores.proofs.store_buffer.StoreBuffer.drop_oldest.Goals as goal
 

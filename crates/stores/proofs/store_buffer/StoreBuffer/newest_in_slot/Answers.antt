@@ -1,4 +1,4 @@
-use Rattle.std.proofs.Common.{◌≡◌, ℕ, ◌<◌, length, refl, [], ◌∷◌, arith}
+use Rattle.std.proofs.Common.{◌≡◌, ℕ, length, refl, [], ◌∷◌, arith}
 use mathlib.Core.List.{foldl, foldl-append}
 use Prim.Native.Nat.{zero-le}
 use Rattle.stores.specs.Types.{Store}

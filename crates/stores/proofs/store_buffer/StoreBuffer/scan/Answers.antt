@@ -1,4 +1,4 @@
-use Rattle.std.proofs.Common.{◌≡◌, ◌<◌, length, take, refl, arith, length-take}
+use Rattle.std.proofs.Common.{◌≡◌, length, take, refl, arith, length-take}
 use Prim.Native.Nat.{zero-le}
 use Rattle.stores.specs.StoreBuffer.{scanned}
 use Rattle.stores.proofs.Laws.StoreBuffer.{found_all, found_more, goes_on_lem, scan_of, scan_of_snoc, take_stores_most}
