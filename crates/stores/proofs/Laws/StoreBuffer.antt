@@ -148,7 +148,11 @@ module _ (b : StoreBuffer) (some : 0 < b.count) (within : b.count ≤ length b.s
 
 -- ── What a store leaves alone, by its kind ──────────────────────────────────────────────────────────────────────────────────
 
--- any but a slot store leaves the slots
+-- a slot store the tail
+pub slot_store_leaves : (t : Index) (k : StoreKind) {x : ℕ} {i : Index} → k ≡ Slot x i → t ≡ tail_after t k
+slot_store_leaves t k is = sym (ap (tail_after t) is)
+
+-- any other the slots
 pub other_store_leaves : (n : ℕ) (slots : List ℕ) (k : StoreKind) → ((x : ℕ) (i : Index) → k ≡ Slot x i → ⊥) → slots ≡ slots_after n slots k
 other_store_leaves n slots Client other = refl
 other_store_leaves n slots (Tail u) other = refl

@@ -11,7 +11,7 @@ use Rattle.stores.specs.Look.{hidden_after_drain, hidden_after_store}
 use Rattle.stores.specs.Spacing.{spacing_after}
 use Rattle.stores.specs.StoreBuffer.{drop_oldest, oldest, pushed_in, pushed_or_same, slots_after, tail_after}
 use Rattle.stores.proofs.Laws.Look.{newest_tail_in_range_lem, pending_within}
-use Rattle.stores.proofs.Laws.StoreBuffer.{drop_oldest_some, fits_more, other_store_leaves, pushed_free}
+use Rattle.stores.proofs.Laws.StoreBuffer.{drop_oldest_some, fits_more, other_store_leaves, pushed_free, slot_store_leaves}
 use Rattle.machine.specs.Types.{Drain, Entry, Look, Machine, Moved, Nothing, Spacing, Wait, WorkerMove}
 use Rattle.machine.specs.InRange.{in_range}
 use Rattle.machine.specs.Machine.{done, handing, hidden, look, thief_call}
@@ -74,7 +74,7 @@ returns-in-Slot c =
     let long : length m.buffer.stores ≡ 64 = omega arith in
     let k = (oldest m.buffer).kind in
     let dropped = c.drop_oldest-dropped in
-    let same = sym (ap (tail_after m.tail) c.in-Slot.is) ∙ ap (λ d. tail_after m.tail d.oldest.kind) dropped.ensures in
+    let same = slot_store_leaves m.tail dropped.result.oldest.kind c.in-Slot.is ∙ ap (λ d. tail_after m.tail d.oldest.kind) dropped.ensures in
     simp (
       c.drained_to_slot.ensures,
       c.after_drain-hidden.ensures,
