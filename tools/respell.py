@@ -89,9 +89,6 @@ def renames():
         new = wanted.get(old, old)
         if new in words or new in {wanted[w] for w in words if w in wanted}:
             wanted[old] = new + "_lem"
-    for old in sorted(words):
-        if "-" in old and wanted.get(old) in {wanted[w] for w in words if w in wanted and CAMEL.match(w)}:
-            wanted[old] += "_lem"
     clashes = collections.defaultdict(set)
     for old, new in wanted.items():
         clashes[new].add(old)

@@ -79,11 +79,11 @@ module _ {M : Type 0} (b : Implementation M Entry) (proved : Proved b) where
       let count = length_entries_up_to s kinds operands (length kinds) in
       record {
         each = length-outcomes_from b s kinds operands;
-        no_entry_lem = λ at r inside refused.
+        no_entry = λ at r inside refused.
             let before = machine_after b (b.fresh s) (take at es) in
             each_there b.next b.outcome (b.fresh s) es at Moved Drain (omega (arith, count))
             ∙ ap (b.outcome before) (entry_there s kinds operands at inside ∙ ap entry_to_obey refused)
-            ∙ proved.no_entry_lem before r;
+            ∙ proved.no_entry before r;
         out_of_range = λ out. all_wait_lem s out es ∙ ap (λ n. replicate n Wait) count;
         nothing_hidden = λ out. none_hidden s out es;
       }

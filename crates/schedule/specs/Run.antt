@@ -162,7 +162,7 @@ NoEntryWaits = (m : Machine) (r : Refusal) → obey m (entry_to_obey (meaning.Re
 -- sizes and arrays that are not checked: each place has its outcome, 7 where no entry is allowed, and 7 everywhere, with the number 0, if a size is out of range
 pub record AnyArrays {M : Type 0} (b : Implementation M Entry) (s : Sizes) (kinds operands : List ℕ) : Type 0 where
   pub each : length (outcomes_from_by b s kinds operands) ≡ length kinds
-  pub no_entry_lem : (at : ℕ) (r : Refusal) → at < length kinds → entry_at s kinds operands at ≡ meaning.Refused r → get_or (outcomes_from_by b s kinds operands) at Moved ≡ Wait
+  pub no_entry : (at : ℕ) (r : Refusal) → at < length kinds → entry_at s kinds operands at ≡ meaning.Refused r → get_or (outcomes_from_by b s kinds operands) at Moved ≡ Wait
   pub out_of_range : sizes_in_range s ≡ false → outcomes_from_by b s kinds operands ≡ replicate (length kinds) Wait
   pub nothing_hidden : sizes_in_range s ≡ false → (summary_from_by b s kinds operands).hidden ≡ 0
 

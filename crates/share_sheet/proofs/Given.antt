@@ -163,10 +163,10 @@ module _ (file : List ℕ) (count room : ℕ) (made : Checked file count room) w
         not_given = λ block within none at task.
             let party = sym none ∙ ap (λ h. h.party) (share_told rest block within ∙ share_of_task at block task) in
             omega (arith, party, party_small at);
-        no_entry_lem = λ block within none.
+        no_entry = λ block within none.
             ap (λ h. h.entry) (share_told rest block within) ∙ none_no_entry block (sym (ap (λ h. h.party) (share_told rest block within)) ∙ none);
         given = λ block within some. subst (Given block) (sym (share_told rest block within)) (task_of_share block (λ none. some (ap (λ h. h.party) (share_told rest block within) ∙ none)));
-        put_before_lem = λ block within some.
+        put_before = λ block within some.
             let named = (task_of_share block (λ none. some (ap (λ h. h.party) (share_told rest block within) ∙ none))).0 in
             let told = task_told (share_of es os block).entry block named in
             ap (λ h. occurrences block (stored ff_the (sizes_in file) (take h.entry es))) (share_told rest block within)

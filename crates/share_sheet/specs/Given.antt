@@ -31,12 +31,12 @@ pub record SheetFacts (file : List ℕ) (count : ℕ) (sheet : List ℕ) : Type 
   pub once : (at other block : ℕ) → TaskAt file at block → TaskAt file other block → at ≡ other
   -- a block that the sheet calls not given was never answered, and has no entry
   pub not_given : (block : ℕ) → within 1 count block ≡ true → (share_in count sheet block).party ≡ 255 → (at : ℕ) → TaskAt file at block → ⊥
-  pub no_entry_lem : (block : ℕ) → within 1 count block ≡ true → (share_in count sheet block).party ≡ 255 → (share_in count sheet block).entry ≡ 0
+  pub no_entry : (block : ℕ) → within 1 count block ≡ true → (share_in count sheet block).party ≡ 255 → (share_in count sheet block).entry ≡ 0
   -- a block with a party: the entry that the sheet names answered TASK with it, and it is that party's ..
   pub given : (block : ℕ) → within 1 count block ≡ true → ((share_in count sheet block).party ≡ 255 → ⊥)
       → TaskAt file (share_in count sheet block).entry block × (party_number (get_or (schedule_in file) (share_in count sheet block).entry Drain) ≡ (share_in count sheet block).party)
   -- .. and before that entry the block was put, STORED, and just once
-  pub put_before_lem : (block : ℕ) → within 1 count block ≡ true → ((share_in count sheet block).party ≡ 255 → ⊥)
+  pub put_before : (block : ℕ) → within 1 count block ≡ true → ((share_in count sheet block).party ≡ 255 → ⊥)
       → occurrences block (stored ff_the (sizes_in file) (take (share_in count sheet block).entry (schedule_in file))) ≡ 1
 
 -- so it is wherever the answer is that a sheet was written

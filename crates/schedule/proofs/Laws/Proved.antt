@@ -25,7 +25,7 @@ pub record Proved {M : Type 0} (b : Implementation M Entry) : Type 0 where
   -- memory never lags by more than the needed margin
   pub lag : HiddenWithinNeeded b
   -- where no entry is allowed, every machine answers 7
-  pub no_entry_lem : (m : M) (r : Refusal) → b.outcome m (entry_to_obey (Refused r)) ≡ Wait
+  pub no_entry : (m : M) (r : Refusal) → b.outcome m (entry_to_obey (Refused r)) ≡ Wait
   -- a fresh machine with sizes out of range answers 7 to every entry ..
   pub out_waits : (s : Sizes) → sizes_in_range s ≡ false → (e : Entry) → b.outcome (b.fresh s) e ≡ Wait
   -- .. stays as it is ..
