@@ -1,4 +1,4 @@
--- How far memory lags behind the worker. Renders, of request 4 in 02, what the number is and its last sentence. Proved of FF-THE in `proofs/Hidden.antt`, of FF-CL in `proofs/FfCl.antt`.
+-- How far memory lags behind the worker. Renders, of request 4 in 02, what the number is and its last sentence. Proved of FF-THE in `proofs/HiddenNumber.antt`, of FF-CL in `proofs/FfCl.antt`.
 use Rattle.std.specs.Prelude.{◌≡◌, Bool, true, ◌&&◌, List, [], ◌∷◌, ◌++◌, ℕ, suc, ◌≤◌, ◌<◌, eqb, get_or, length, take}
 use Rattle.terms.specs.Lists.{largest}
 use Rattle.terms.specs.Sizes.{needed_margin, sized, sizes_in_range}

@@ -1,5 +1,5 @@
 -- How far memory lagged in a run, of any queue on its machine. Renders the last two sentences of request 4, in 02, of files: what the largest number is, which a run tells and the program prints, and that it never exceeds the needed margin. `properties` has the same of lists of
--- entries, one by one. Proved in `proofs/Hidden.antt`.
+-- entries, one by one. Proved in `proofs/HiddenNumber.antt`.
 use Rattle.std.specs.Prelude.{◌≡◌, List, ℕ, ◌≤◌}
 use Rattle.terms.specs.Lists.{IsLargest}
 use Rattle.terms.specs.Sizes.{needed_margin}

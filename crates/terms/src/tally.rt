@@ -40,8 +40,7 @@ fn counted_totals(given: u32, aborts: u32, waits: u32, outcome: Outcome) -> Tall
     }
 }
 
-// Counts an outcome in a tally that the caller lends: three loads, a call and a store, and nothing else, since its proof is written
-// by hand.
+// Counts an outcome in a tally that the caller lends: three loads, a call and a store.
 pub fn count_outcome(tally: &mut Tally, outcome: Outcome)
     ensures { tally.new ≡ counted tally.old outcome }
 {
