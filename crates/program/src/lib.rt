@@ -4,7 +4,7 @@
 // or a write that fails ends the program with that error.
 #![tactic(auto)]
 
-ghost use Rattle.std.specs.Prelude.{◌≤◌, ◌<◌, length, take, IfOk, IfSome, OnOk};
+ghost use Rattle.std.specs.Prelude.{ℕ, ◌≤◌, ◌<◌, length, take, IfOk, IfSome, OnErr, OnOk};
 ghost use Rattle.std.specs.Io.KnownBytes.{Appends, Consumes, IsAtEnd};
 ghost use Rattle.lines.specs.Lines.{lines_of};
 
@@ -16,16 +16,33 @@ use std::io::{Read, Write};
 // one, and as the whole of it would be (`lines`, `specs/Input.antt`).
 const INPUT_ROOM: usize = 20509;
 
-// Runs the file that the reader gives on a queue, and writes the lines of its run.
+// Runs the file that the reader gives on a queue, and writes the lines of its run; after an error, a beginning of them, which may be none.
 pub fn rehearse<R: Read, W: Write>(reader: &mut R, writer: &mut W, queue: Queue) -> io::Result<()>
-    ensures { OnOk result (IfSome (R.remaining reader.old) (λ input. Appends (W.contents writer.old) (W.contents writer.new) (lines_of queue input))) }
+    ensures ok { OnOk result (IfSome (R.remaining reader.old) (λ input. Appends (W.contents writer.old) (W.contents writer.new) (lines_of queue input))) }
+    ensures err { OnErr result (IfSome (R.remaining reader.old) (λ input. (n : ℕ) × Appends (W.contents writer.old) (W.contents writer.new) (take n (lines_of queue input)))) }
 {
     let mut input = [0; INPUT_ROOM];
     let length = read_full(reader, &mut input)?;
     let text = lines::lines_of(queue, &input[..length]);
     let end = text.length;
     let bytes = text.bytes;
-    writer.write_all(&bytes[..end])
+    write_whole(writer, &bytes[..end])
+}
+
+// Writes all of the bytes. After an error it has written a beginning of them.
+fn write_whole<W: Write>(writer: &mut W, bytes: &[u8]) -> io::Result<()>
+    ensures ok { OnOk result (Appends (W.contents writer.old) (W.contents writer.new) bytes.now) }
+    ensures err { OnErr result ((n : ℕ) × Appends (W.contents writer.old) (W.contents writer.new) (take n bytes.now)) }
+{
+    let mut written = 0;
+    while written < bytes.len() {
+        let more = writer.write(&bytes[written..])?;
+        if more == 0 {
+            return Err(io::Error::from(io::ErrorKind::WriteZero));
+        }
+        written += more;
+    }
+    Ok(())
 }
 
 // Reads until the buffer is full or the input ends. How many bytes it put at the start of the buffer.

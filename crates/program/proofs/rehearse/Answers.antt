@@ -1,7 +1,7 @@
 use Rattle.std.proofs.Common.{[], ◌≡◌, ℕ, ◌≤◌, ◌<◌, ◌+◌, ◌⊎◌, List, ◌++◌, None, Some, IfSome, arith, length, take, drop, replicate, sym, ap, ◌∙◌, subst, append-nil, length-take-le, take_all, inl, inr}
 use Rattle.std.proofs.lemmas.Bool.{cases_lt}
 use Rattle.std.proofs.lemmas.List.{take_at}
-use Rattle.std.proofs.lemmas.Result.{on_ok_weaker}
+use Rattle.std.proofs.lemmas.Result.{on_err_weaker, on_ok_weaker}
 use Rattle.std.specs.declared.option.Option.{Option}
 use Rattle.std.specs.Io.KnownBytes.{Appends, Consumes, IsAtEnd}
 use Rattle.number.specs.Number.{overwritten}
@@ -41,12 +41,19 @@ returns g c =
     let long : 20509 ≡ length buffer = omega (arith, c.read_full.auto.buffer) in
     let within : n ≤ 20509 = omega (arith, read.bound, long) in
     let end : n < 20509 → IsAtEnd (g.R.Read.remaining c.read_full.new.reader) = λ less. read.end (omega (arith, less, long)) in
-    let Wrote : List ℕ → Type 0 = λ bytes. Appends (g.W.Write.contents c.args.writer.now) (g.W.Write.contents c.write_all.new.self) bytes in
+    let old = g.W.Write.contents c.args.writer.now in
+    let now = g.W.Write.contents c.write_whole.new.writer in
+    let Wrote : List ℕ → Type 0 = λ bytes. Appends old now bytes in
+    let WroteSome : List ℕ → Type 0 = λ bytes. (n : ℕ) × Appends old now (take n bytes) in
     let q = c.args.queue in
     let text = c.lines_of-text.result in
     let lines = c.lines_of-text.ensures in
     let printed = front (lines_of q (take n buffer)) (replicate 135311 0) text.bytes text.length lines.length_value.0 lines.bytes_value in
-    on_ok_weaker {P = Wrote (take text.length text.bytes)} c.write_all.result
-    (λ wrote. of_input (λ l. Wrote (lines_of q l)) 20509 n buffer (g.R.Read.remaining c.args.reader.now) (g.R.Read.remaining c.read_full.new.reader)
-    (λ input held. subst Wrote (beginning_decides q input) held) within long read.bytes end (subst Wrote printed wrote))
-    c.write_all.ensures.bytes
+    let told : (P : List ℕ → Type 0) → P (take text.length text.bytes) → IfSome (g.R.Read.remaining c.args.reader.now) (λ input. P (lines_of q input)) =
+    λ P wrote. of_input (λ l. P (lines_of q l)) 20509 n buffer (g.R.Read.remaining c.args.reader.now) (g.R.Read.remaining c.read_full.new.reader)
+    (λ input held. subst P (beginning_decides q input) held) within long read.bytes end (subst P printed wrote)
+    in
+    record {
+      ok = on_ok_weaker {P = Wrote (take text.length text.bytes)} c.write_whole.result (told Wrote) c.write_whole.ensures.ok;
+      err = on_err_weaker c.write_whole.result (told WroteSome) c.write_whole.ensures.err;
+    }
