@@ -3,4 +3,5 @@ pub mod Hidden
 pub mod Worker
 pub mod Obey
 pub mod Moves
+pub mod Performed
 pub mod Loads

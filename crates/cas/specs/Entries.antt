@@ -7,7 +7,7 @@ use Rattle.terms.specs.Outcome.{is_refusal}
 use Rattle.terms.specs.Sizes.{margin_in_use, sizes_in_range}
 use Rattle.stores.specs.Spacing.{take_begins, too_early}
 use Rattle.stores.specs.StoreBuffer.{drop_oldest, oldest, slots_after, tail_after}
-use Rattle.cas.specs.Types.{Client, Done, Entry, Drain, ClientStore, BeginPut, BeginTake, WorkerStep, BeginSteal, ThiefStep, Machine, TheClient, One, Outcome, Moved, Place, Early, Wait, Sizes, ThiefCall, StealLoadHead, ThiefMove, ThiefView, WorkerCall, PutLoadHead, TakeStoreTail, WorkerMove, WorkerView}
+use Rattle.cas.specs.Types.{Client, Done, Entry, Drain, ClientStore, BeginPut, BeginTake, WorkerStep, BeginSteal, ThiefStep, Machine, TheClient, Some, Outcome, Moved, Place, Early, Wait, Sizes, ThiefCall, StealLoadHead, ThiefMove, ThiefView, WorkerCall, PutLoadHead, TakeStoreTail, WorkerMove, WorkerView}
 use Rattle.cas.specs.Worker.{loads, worker_move, worker_runs}
 use Rattle.cas.specs.Thief.{loads as thief_loads, thief_move, thief_runs}
 use Rattle.cas.specs.Machine.{done, fresh, has_room, hidden, in_range, memory_loads, needing, nothing_pending, thief_call, with_head, with_memory, with_spacing, with_store, with_thief, with_worker, worker_loads, worker_tail}
@@ -68,7 +68,7 @@ unless_worker_runs m d = cond (worker_runs m.worker.call) (done Place m) d
 
 -- a client store, which counts
 abbrev pub make_client_store : Machine → Done
-make_client_store m = unless_worker_runs m (needing (has_room m) m (done Moved (with_store (One TheClient Client) m)))
+make_client_store m = unless_worker_runs m (needing (has_room m) m (done Moved (with_store (Some (TheClient, Client)) m)))
 
 abbrev pub begin_put : ℕ → Machine → Done
 begin_put x m = unless_worker_runs m (done Moved (with_worker (PutLoadHead x) m))

@@ -2,12 +2,13 @@
 -- of 01, the first paragraph of "The machine" without its lock, the list in "Parts" of what an operation tests before all else, and what the fresh machine is; and of request 4, in 02, the number that is handed on.
 use Rattle.std.specs.Prelude.{Bool, cond, ◌&&◌, List, ℕ, ltb, eqb, get_or, replicate, set}
 use Rattle.terms.specs.Lists.{all}
+pub use Rattle.stores.specs.Done.{handing}
 use Rattle.stores.specs.Index.{index_of}
 use Rattle.stores.specs.Load as load
 use Rattle.stores.specs.Look.{hidden_if, look_at, memory_in_range}
 use Rattle.stores.specs.Spacing.{counted_in, no_take}
 use Rattle.stores.specs.StoreBuffer.{empty_buffer, newest_tail, pending, pushed_in, take_stores}
-use Rattle.cas.specs.Types.{Done, Index, Load, NoSlot, SlotOf, Look, Machine, Outcome, Wait, Push, Sizes, Spacing, StoreBuffer, ThiefCall, WorkerCall}
+use Rattle.cas.specs.Types.{Done, Index, Option, None, Some, Look, Machine, Outcome, Wait, Maker, StoreKind, Sizes, Spacing, StoreBuffer, ThiefCall, WorkerCall}
 use Rattle.cas.specs.Worker.{worker_in_range}
 use Rattle.cas.specs.Thief.{idle_thief, thief_in_range}
 
@@ -50,7 +51,7 @@ abbrev pub with_thief : ℕ → ThiefCall → Machine → Machine
 with_thief i c m = record { sizes = m.sizes; slots = m.slots; head = m.head; tail = m.tail; buffer = m.buffer; spacing = m.spacing; worker = m.worker; thieves = set m.thieves i (record { call = c }) }
 
 -- The store that an entry makes, if it makes one, is pending; if it is one that counts for the spacing rule, it does so as soon as it is pending.
-abbrev pub with_store : Push → Machine → Machine
+abbrev pub with_store : Option (Maker × StoreKind) → Machine → Machine
 with_store p m = with_spacing (counted_in p m.spacing) (with_buffer (pushed_in p m.buffer) m)
 
 -- ── In range ────────────────────────────────────────────────────────────────────────────────────────────────────────────────
@@ -77,13 +78,13 @@ abbrev pub worker_load : Machine → Index → ℕ
 worker_load m i = load.worker_load m.sizes.slots m.slots m.buffer i
 
 -- what a step loads: 0 where it loads from no slot
-abbrev pub memory_loads : Machine → Load → ℕ
-memory_loads m NoSlot = 0
-memory_loads m (SlotOf i) = memory_load m i
+abbrev pub memory_loads : Machine → Option Index → ℕ
+memory_loads m None = 0
+memory_loads m (Some i) = memory_load m i
 
-abbrev pub worker_loads : Machine → Load → ℕ
-worker_loads m NoSlot = 0
-worker_loads m (SlotOf i) = worker_load m i
+abbrev pub worker_loads : Machine → Option Index → ℕ
+worker_loads m None = 0
+worker_loads m (Some i) = worker_load m i
 
 -- the call of the thief with this number
 abbrev pub thief_call : Machine → ℕ → ThiefCall
@@ -113,10 +114,6 @@ abbrev pub look : Machine → Look
 look m = look_at m.sizes m.head m.tail m.buffer m.spacing (calls_in_range m)
 
 -- ── What an operation hands back ────────────────────────────────────────────────────────────────────────────────────────────
-
--- with any number; `done` has the right one
-abbrev pub handing : Outcome → ℕ → Machine → Done
-handing o n m = record { machine = m; outcome = o; hidden = n }
 
 -- the machine, the outcome, and the number for that machine
 abbrev pub done : Outcome → Machine → Done

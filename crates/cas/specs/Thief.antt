@@ -2,7 +2,7 @@
 use Rattle.std.specs.Prelude.{◌≡◌, Bool, true, false, cond, ℕ, pos, ◌-ℤ◌}
 use Rattle.std.specs.Int.Signed.{le_z}
 use Rattle.stores.specs.Index.{eq_z, index_in_range, next, slot_index_in_range}
-use Rattle.cas.specs.Types.{Index, Load, NoSlot, SlotOf, Outcome, Moved, Place, Task, Empty, Abort, Thief, ThiefCall, StealLoadHead, StealLoadTail, StealLoadSlot, StealSwapHead, ThiefView, ThiefMove}
+use Rattle.cas.specs.Types.{Index, Option, None, Some, Outcome, Moved, Place, Task, Empty, Abort, Thief, ThiefCall, StealLoadHead, StealLoadTail, StealLoadSlot, StealSwapHead, ThiefView, ThiefMove}
 
 abbrev pub idle_thief : Thief
 idle_thief = record { call = ThiefCall.Idle }
@@ -24,12 +24,12 @@ thief_runs (StealLoadSlot h) = true
 thief_runs (StealSwapHead x h) = true
 
 -- from which slot the next step loads
-abbrev pub loads : ThiefCall → Load
-loads ThiefCall.Idle = NoSlot
-loads StealLoadHead = NoSlot
-loads (StealLoadTail h) = NoSlot
-loads (StealLoadSlot h) = SlotOf h
-loads (StealSwapHead x h) = NoSlot
+abbrev pub loads : ThiefCall → Option Index
+loads ThiefCall.Idle = None
+loads StealLoadHead = None
+loads (StealLoadTail h) = None
+loads (StealLoadSlot h) = Some h
+loads (StealSwapHead x h) = None
 
 -- what a thief's steps need of what it sees, to be computed in 64 bits
 pub record ThiefViewInRange (v : ThiefView) : Type 0 where

@@ -3,7 +3,7 @@
 use Rattle.std.specs.Prelude.{◌≡◌, Bool, true, false, cond, ℕ, pos, ◌-ℤ◌}
 use Rattle.std.specs.Int.Signed.{le_z, lt_z}
 use Rattle.stores.specs.Index.{eq_z, index_in_range, next, previous, slot_index_in_range}
-use Rattle.cas.specs.Types.{Index, Load, NoSlot, SlotOf, Outcome, Moved, Place, Wait, Stored, Task, Empty, Full, End, Push, Nothing, One, APut, ATake, Tail, Slot, WorkerCall, PutLoadHead, PutStoreSlot, PutStoreTail, TakeStoreTail, TakeLoadHead, TakeLoadSlot, TakeTailToHead, TakeTailPastHead, TakeSwapHead, TakeLoadLastSlot, WorkerView, WorkerMove}
+use Rattle.cas.specs.Types.{Index, Option, None, Some, Outcome, Moved, Place, Wait, Stored, Task, Empty, Full, End, Maker, StoreKind, APut, ATake, Tail, Slot, WorkerCall, PutLoadHead, PutStoreSlot, PutStoreTail, TakeStoreTail, TakeLoadHead, TakeLoadSlot, TakeTailToHead, TakeTailPastHead, TakeSwapHead, TakeLoadLastSlot, WorkerView, WorkerMove}
 
 -- ── Calls ───────────────────────────────────────────────────────────────────────────────────────────────────────────────────
 
@@ -36,18 +36,18 @@ worker_runs (TakeSwapHead t) = true
 worker_runs (TakeLoadLastSlot t) = true
 
 -- from which slot the next step loads
-abbrev pub loads : WorkerCall → Load
-loads WorkerCall.Idle = NoSlot
-loads (PutLoadHead x) = NoSlot
-loads (PutStoreSlot x) = NoSlot
-loads PutStoreTail = NoSlot
-loads TakeStoreTail = NoSlot
-loads (TakeLoadHead t) = NoSlot
-loads (TakeLoadSlot t) = SlotOf t
-loads (TakeTailToHead h) = NoSlot
-loads (TakeTailPastHead t) = NoSlot
-loads (TakeSwapHead t) = NoSlot
-loads (TakeLoadLastSlot t) = SlotOf t
+abbrev pub loads : WorkerCall → Option Index
+loads WorkerCall.Idle = None
+loads (PutLoadHead x) = None
+loads (PutStoreSlot x) = None
+loads PutStoreTail = None
+loads TakeStoreTail = None
+loads (TakeLoadHead t) = None
+loads (TakeLoadSlot t) = Some t
+loads (TakeTailToHead h) = None
+loads (TakeTailPastHead t) = None
+loads (TakeSwapHead t) = None
+loads (TakeLoadLastSlot t) = Some t
 
 -- what the worker's steps need of what it sees, to be computed in 64 bits
 pub record WorkerViewInRange (v : WorkerView) : Type 0 where
@@ -59,22 +59,22 @@ pub record WorkerViewInRange (v : WorkerView) : Type 0 where
 
 -- the entry is refused: all stays as it is
 abbrev pub stays : Outcome → WorkerView → WorkerMove
-stays o v = record { push = Nothing; head = v.head; call = v.call; outcome = o }
+stays o v = record { push = None; head = v.head; call = v.call; outcome = o }
 
 -- the call goes on: this step is next
 abbrev pub goes_on : WorkerCall → WorkerView → WorkerMove
-goes_on c v = record { push = Nothing; head = v.head; call = c; outcome = Moved }
+goes_on c v = record { push = None; head = v.head; call = c; outcome = Moved }
 
 -- the call ends with this answer
 abbrev pub answers : Outcome → WorkerView → WorkerMove
-answers o v = record { push = Nothing; head = v.head; call = WorkerCall.Idle; outcome = o }
+answers o v = record { push = None; head = v.head; call = WorkerCall.Idle; outcome = o }
 
 -- 7 WAIT where the step's need is not met
 abbrev pub needing : Bool → WorkerView → WorkerMove → WorkerMove
 needing met v d = cond met d (stays Wait v)
 
 -- a store, which needs room
-abbrev pub storing : Push → Outcome → WorkerCall → WorkerView → WorkerMove
+abbrev pub storing : Option (Maker × StoreKind) → Outcome → WorkerCall → WorkerView → WorkerMove
 storing p o c v = needing v.room v (record { push = p; head = v.head; call = c; outcome = o })
 
 -- ── Put ─────────────────────────────────────────────────────────────────────────────────────────────────────────────────────
@@ -93,17 +93,17 @@ put_load_head x v = cond (at_end v) (answers End v) (cond (is_full v) (answers F
 
 -- step 2: store the number in the slot that the tail points to
 abbrev pub put_store_slot : ℕ → WorkerView → WorkerMove
-put_store_slot x v = storing (One APut (Slot x v.tail)) Moved PutStoreTail v
+put_store_slot x v = storing (Some (APut, Slot x v.tail)) Moved PutStoreTail v
 
 -- step 3: store the tail, one higher, and answer
 abbrev pub put_store_tail : WorkerView → WorkerMove
-put_store_tail v = storing (One APut (Tail (next v.tail))) Stored WorkerCall.Idle v
+put_store_tail v = storing (Some (APut, Tail (next v.tail))) Stored WorkerCall.Idle v
 
 -- ── Take ────────────────────────────────────────────────────────────────────────────────────────────────────────────────────
 
 -- step 1: store the tail, one lower; t is that index from here on
 abbrev pub take_store_tail : WorkerView → WorkerMove
-take_store_tail v = storing (One ATake (Tail (previous v.tail))) Moved (TakeLoadHead (previous v.tail)) v
+take_store_tail v = storing (Some (ATake, Tail (previous v.tail))) Moved (TakeLoadHead (previous v.tail)) v
 
 -- t > h, for the head h that is loaded
 abbrev pub is_above_head : Index → WorkerView → Bool
@@ -119,17 +119,17 @@ take_load_head t v = cond (is_above_head t v) (goes_on (TakeLoadSlot t) v) (cond
 
 -- step 3 where t < h: store tail h, and answer
 abbrev pub take_tail_to_head : Index → WorkerView → WorkerMove
-take_tail_to_head h v = storing (One ATake (Tail h)) Empty WorkerCall.Idle v
+take_tail_to_head h v = storing (Some (ATake, Tail h)) Empty WorkerCall.Idle v
 
 -- step 3 where t = h: store tail h + 1
 abbrev pub take_tail_past_head : Index → WorkerView → WorkerMove
-take_tail_past_head t v = storing (One ATake (Tail (next t))) Moved (TakeSwapHead t) v
+take_tail_past_head t v = storing (Some (ATake, Tail (next t))) Moved (TakeSwapHead t) v
 
 -- step 4 where t = h: with nothing pending, swap head from h to h + 1; if head is no longer h, a thief has had the task
 abbrev pub take_swap_head : Index → WorkerView → WorkerMove
 take_swap_head t v =
     needing v.drained v
-    (cond (is_head t v) (record { push = Nothing; head = next t; call = TakeLoadLastSlot t; outcome = Moved }) (answers Empty v))
+    (cond (is_head t v) (record { push = None; head = next t; call = TakeLoadLastSlot t; outcome = Moved }) (answers Empty v))
 
 -- step 3 where t > h, and step 5 where the swap was won: load from the slot of t and answer
 abbrev pub take_load_slot : WorkerView → WorkerMove

@@ -16,8 +16,8 @@
 //
 // - `moves`: every entry of a party as a move of it: its steps, its beginnings and the client store;
 // - `state`: memory, store buffer and calls together, at first, and what the parties load;
-// - `obey`: what each party sees, how a move is performed, and the operations: `obey` for any entry, and one for each
-//   kind, which is `obey` of that kind.
+// - `obey`: what each party sees, how a move is performed, and `obey`, which obeys any entry. The operation of each kind of
+//   entry is `obey` of that kind (`Operations`, of `stores`).
 //
 // Types and functions have the names that they have in `machine`; what both machines are made of is in `stores`.
 #![tactic(auto)]

@@ -5,7 +5,7 @@ ghost use Rattle.cas.specs.Worker.{WorkerViewInRange};
 
 use crate::thief::{ThiefCall, ThiefMove, ThiefView, thief_move};
 use crate::worker::{WorkerCall, WorkerMove, WorkerView, worker_move};
-use stores::{Maker, Push, StoreKind};
+use stores::{Maker, StoreKind};
 use terms::{Entry, Outcome};
 
 // What an entry of the worker's does, by whether a take would be too early.
@@ -15,32 +15,18 @@ pub(crate) fn worker_entry(view: WorkerView, entry: Entry, early: bool) -> Worke
 {
     let call = view.call;
     match entry {
-        Entry::WorkerStep => return worker_move(view),
+        Entry::WorkerStep => worker_move(view),
+        Entry::ClientStore | Entry::BeginPut(_) | Entry::BeginTake if call.runs() => {
+            view.stays(Outcome::Place)
+        }
         Entry::ClientStore => {
-            if call.runs() {
-                return view.stays(Outcome::Place);
-            }
-            let made = Push::One(Maker::TheClient, StoreKind::Client);
-            return view.stores(made, Outcome::Moved, call);
+            let made = Some((Maker::TheClient, StoreKind::Client));
+            view.stores(made, Outcome::Moved, call)
         }
-        Entry::BeginPut(task) => {
-            if call.runs() {
-                return view.stays(Outcome::Place);
-            }
-            return view.goes_on(WorkerCall::PutLoadHead(task));
-        }
-        Entry::BeginTake => {
-            if call.runs() {
-                return view.stays(Outcome::Place);
-            }
-            if early {
-                return view.stays(Outcome::Early);
-            }
-            return view.goes_on(WorkerCall::TakeStoreTail);
-        }
-        Entry::Drain | Entry::BeginSteal(_) | Entry::ThiefStep(_) => return view.stays(
-            Outcome::Wait,
-        ),
+        Entry::BeginPut(task) => view.goes_on(WorkerCall::PutLoadHead(task)),
+        Entry::BeginTake if early => view.stays(Outcome::Early),
+        Entry::BeginTake => view.goes_on(WorkerCall::TakeStoreTail),
+        Entry::Drain | Entry::BeginSteal(_) | Entry::ThiefStep(_) => view.stays(Outcome::Wait),
     }
 }
 
@@ -50,18 +36,15 @@ pub(crate) fn thief_entry(view: ThiefView, entry: Entry) -> ThiefMove
     ensures { result ≡ thief_entry entry view }
 {
     match entry {
-        Entry::ThiefStep(_) => return thief_move(view),
-        Entry::BeginSteal(_) => {
-            let call = view.call;
-            if let ThiefCall::Idle = call {
-                return view.goes_on(ThiefCall::StealLoadHead);
-            }
-            return view.stays(Outcome::Place);
+        Entry::ThiefStep(_) => thief_move(view),
+        Entry::BeginSteal(_) if matches!(view.call, ThiefCall::Idle) => {
+            view.goes_on(ThiefCall::StealLoadHead)
         }
+        Entry::BeginSteal(_) => view.stays(Outcome::Place),
         Entry::Drain
         | Entry::ClientStore
         | Entry::BeginPut(_)
         | Entry::BeginTake
-        | Entry::WorkerStep => return view.stays(Outcome::Wait),
+        | Entry::WorkerStep => view.stays(Outcome::Wait),
     }
 }

@@ -2,13 +2,13 @@ ghost use Rattle.std.specs.Prelude.{◌≡◌, ◌<◌};
 ghost use Rattle.stores.specs.StoreBuffer.{pushed_or_same, slots_after};
 ghost use Rattle.cas.specs.Machine.{handing, thief_call, with_buffer, with_head, with_memory, with_spacing, with_worker, worker_tail};
 ghost use Rattle.cas.specs.Entries.{obey, perform_thief, thief_view, worker_view};
-ghost use Rattle.cas.specs.Types.{BeginPut, BeginSteal, BeginTake, ClientStore, Drain, Moved, ThiefStep, WorkerStep};
+ghost use Rattle.cas.specs.Types.{Moved};
 
 use crate::moves::{thief_entry, worker_entry};
 use crate::state::{Done, Machine, Worker};
 use crate::thief::{Thief, ThiefCall, ThiefMove, ThiefView};
 use crate::worker::{WorkerCall, WorkerMove, WorkerView};
-use stores::{Index, Push, Spacing, StoreBuffer, StoreKind};
+use stores::{InRange, Index, Operations, Spacing, StoreBuffer, StoreKind};
 use terms::{Entry, Outcome};
 
 // What a party sees, and one way out of `obey` for each way in which an entry changes the machine.
@@ -18,12 +18,11 @@ impl Machine {
         requires { (call ≡ self.worker.call) × (tail ≡ worker_tail self) }
         ensures { result ≡ worker_view self self.worker.call }
     {
-        let head = self.head;
         WorkerView {
-            call: call,
+            call,
             slots: self.sizes.slots,
-            tail: tail,
-            head: head,
+            tail,
+            head: self.head,
             room: self.buffer.count < self.sizes.buffer as usize,
             drained: self.buffer.count == 0,
             loaded: self.worker_loads(call.loads()),
@@ -35,14 +34,11 @@ impl Machine {
         requires { call ≡ thief_call self thief }
         ensures { result ≡ thief_view self (thief_call self thief) }
     {
-        let head = self.head;
-        let tail = self.tail; // whatever is pending
-        let sizes = self.sizes;
         ThiefView {
-            call: call,
-            head: head,
-            tail: tail,
-            margin: sizes.margin_in_use(),
+            call,
+            head: self.head,
+            tail: self.tail, // whatever is pending
+            margin: self.sizes.margin_in_use(),
             loaded: self.memory_loads(call.loads()),
         }
     }
@@ -51,14 +47,12 @@ impl Machine {
     fn drained_to_slot(mut self, kind: StoreKind, left: StoreBuffer, hidden: u32) -> Done
         ensures { result ≡ handing Moved hidden (with_memory (slots_after self.sizes.slots self.slots kind) self.tail left self) }
     {
-        let memory = self.slots;
-        let slots = kind.slots_after(self.sizes.slots, memory);
-        self.slots = slots;
+        self.slots = kind.slots_after(self.sizes.slots, self.slots);
         self.buffer = left;
         Done {
             machine: self,
             outcome: Outcome::Moved,
-            hidden: hidden,
+            hidden,
         }
     }
 
@@ -71,7 +65,7 @@ impl Machine {
         Done {
             machine: self,
             outcome: Outcome::Moved,
-            hidden: hidden,
+            hidden,
         }
     }
 
@@ -79,20 +73,14 @@ impl Machine {
     fn worker_moved_storing(mut self, step: WorkerMove, spacing: Spacing, hidden: u32) -> Done
         ensures { result ≡ handing step.outcome hidden (with_worker step.call (with_head step.head (with_spacing spacing (with_buffer (pushed_or_same step.push self.buffer) self)))) }
     {
-        let buffer = self.buffer;
-        let push = step.push;
-        let head = step.head;
-        let call = step.call;
-        let outcome = step.outcome;
-        let worker = Worker { call: call };
-        self.buffer = buffer.pushed(push);
+        self.buffer = self.buffer.pushed(step.push);
         self.spacing = spacing;
-        self.head = head;
-        self.worker = worker;
+        self.head = step.head;
+        self.worker = Worker { call: step.call };
         Done {
             machine: self,
-            outcome: outcome,
-            hidden: hidden,
+            outcome: step.outcome,
+            hidden,
         }
     }
 
@@ -100,17 +88,13 @@ impl Machine {
     fn worker_moved(mut self, step: WorkerMove, spacing: Spacing, hidden: u32) -> Done
         ensures { result ≡ handing step.outcome hidden (with_worker step.call (with_head step.head (with_spacing spacing self))) }
     {
-        let head = step.head;
-        let call = step.call;
-        let outcome = step.outcome;
-        let worker = Worker { call: call };
         self.spacing = spacing;
-        self.head = head;
-        self.worker = worker;
+        self.head = step.head;
+        self.worker = Worker { call: step.call };
         Done {
             machine: self,
-            outcome: outcome,
-            hidden: hidden,
+            outcome: step.outcome,
+            hidden,
         }
     }
 
@@ -119,36 +103,29 @@ impl Machine {
         requires { thief < 8 }
         ensures { result ≡ handing step.outcome hidden (perform_thief thief self step).machine }
     {
-        let head = step.head;
-        let call = step.call;
-        let outcome = step.outcome;
-        let mut thieves = self.thieves;
-        thieves[thief as usize] = Thief { call: call };
-        self.head = head;
-        self.thieves = thieves;
+        self.head = step.head;
+        self.thieves[thief as usize] = Thief { call: step.call };
         Done {
             machine: self,
-            outcome: outcome,
-            hidden: hidden,
+            outcome: step.outcome,
+            hidden,
         }
     }
 }
 
-impl Machine {
+impl Operations for Machine {
+    ghost obeyed = { obey };
+
     // An entry is obeyed, whichever it is. All entries stand in one function, and each way out of it hands the machine to one that changes it in one straight line: so the compiler copies
     // only what is changed (`docs/ARCHITECTURE.md`, "Where a run's time goes").
-    pub fn obey(mut self, entry: Entry) -> Done
-        ensures { result ≡ obey self entry }
-    {
+    fn obey(mut self, entry: Entry) -> Done {
         let sizes = self.sizes;
-        let worker = self.worker;
-        let held = worker.call;
-        let call = held.copied();
+        let call = self.worker.call;
         let thieves = self.thieves;
         let seen = self.look(call, thieves);
         let thief = entry.thief();
         if !(seen.ranged & (thief < sizes.thieves)) {
-            return self.refused(Outcome::Wait, seen.hidden);
+            return Done::refused(self, Outcome::Wait, seen.hidden);
         }
         match entry {
             // The oldest pending store reaches memory.
@@ -156,11 +133,10 @@ impl Machine {
                 let buffer = self.buffer;
                 let tail = self.tail;
                 if buffer.count == 0 {
-                    return self.refused(Outcome::Wait, seen.hidden);
+                    return Done::refused(self, Outcome::Wait, seen.hidden);
                 }
                 let dropped = buffer.drop_oldest();
-                let oldest = dropped.oldest;
-                let kind = oldest.kind;
+                let kind = dropped.oldest.kind;
                 let left = dropped.left;
                 let hidden = seen.after_drain(tail, kind);
                 if let StoreKind::Slot(_, _) = kind {
@@ -176,27 +152,26 @@ impl Machine {
                 let step = worker_entry(view, entry, spacing.too_early(sizes.spacing));
                 let outcome = step.outcome;
                 if outcome.is_refusal() {
-                    return self.refused(outcome, seen.hidden);
+                    return Done::refused(self, outcome, seen.hidden);
                 }
                 let made = step.push;
                 let head = step.head;
                 let next = step.call;
                 let counted = spacing.after(entry, made);
                 let hidden = seen.after_store(made, counted, head.in_range() & next.in_range());
-                if let Push::One(_, _) = made {
+                if made.is_some() {
                     return self.worker_moved_storing(step, counted, hidden);
                 }
                 return self.worker_moved(step, counted, hidden);
             }
             // The thief's entry is a move of that thief's.
             Entry::BeginSteal(_) | Entry::ThiefStep(_) => {
-                let found = thieves[thief as usize];
-                let mine = found.call;
+                let mine = thieves[thief as usize].call;
                 let view = self.thief_view(thief, mine);
                 let step = thief_entry(view, entry);
                 let outcome = step.outcome;
                 if outcome.is_refusal() {
-                    return self.refused(outcome, seen.hidden);
+                    return Done::refused(self, outcome, seen.hidden);
                 }
                 let head = step.head;
                 let next = step.call;
@@ -205,54 +180,5 @@ impl Machine {
                 return self.thief_moved(thief, step, hidden);
             }
         }
-    }
-
-    // The oldest pending store reaches memory.
-    pub fn drain(mut self) -> Done
-        ensures { result ≡ obey self Drain }
-    {
-        self.obey(Entry::Drain)
-    }
-
-    // The worker makes a store that has nothing to do with the queue.
-    pub fn client_store(mut self) -> Done
-        ensures { result ≡ obey self ClientStore }
-    {
-        self.obey(Entry::ClientStore)
-    }
-
-    // The worker begins to put the task with this number.
-    pub fn begin_put(mut self, task: u32) -> Done
-        ensures { result ≡ obey self (BeginPut task) }
-    {
-        self.obey(Entry::BeginPut(task))
-    }
-
-    // The worker begins to take a task, if enough stores have spaced it from the take before.
-    pub fn begin_take(mut self) -> Done
-        ensures { result ≡ obey self BeginTake }
-    {
-        self.obey(Entry::BeginTake)
-    }
-
-    // The worker's call makes its next step.
-    pub fn worker_step(mut self) -> Done
-        ensures { result ≡ obey self WorkerStep }
-    {
-        self.obey(Entry::WorkerStep)
-    }
-
-    // The thief with this number, counted from 0, begins to steal.
-    pub fn begin_steal(mut self, thief: u32) -> Done
-        ensures { result ≡ obey self (BeginSteal thief) }
-    {
-        self.obey(Entry::BeginSteal(thief))
-    }
-
-    // The call of the thief with this number makes its next step.
-    pub fn thief_step(mut self, thief: u32) -> Done
-        ensures { result ≡ obey self (ThiefStep thief) }
-    {
-        self.obey(Entry::ThiefStep(thief))
     }
 }

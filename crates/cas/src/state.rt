@@ -1,10 +1,10 @@
 ghost use Rattle.std.specs.Prelude.{◌≡◌};
-ghost use Rattle.cas.specs.Machine.{fresh, handing, in_range, look, memory_loads, worker_loads};
+ghost use Rattle.cas.specs.Machine.{fresh, in_range, look, memory_loads, worker_loads};
 
-use crate::thief::{Thief, ThiefCall, thieves_in_range};
+use crate::thief::{Thief, ThiefCall};
 use crate::worker::WorkerCall;
-use stores::{Index, Load, Look, Spacing, Store, StoreBuffer, StoreKind, memory_load, worker_load};
-use terms::{Outcome, Sizes};
+use stores::{Index, Look, Spacing, StoreBuffer, all_in_range, memory_load, worker_load};
+use terms::Sizes;
 
 // The worker.
 #[derive(Clone, Copy)]
@@ -34,14 +34,8 @@ pub struct Machine {
     pub thieves: [Thief; 8],
 }
 
-// What an operation hands back: the machine after it, the entry's outcome, and how far memory lags.
-#[derive(Clone, Copy)]
-pub struct Done {
-    pub machine: Machine,
-    pub outcome: Outcome,
-    // How many stores of take step 1 are pending in that machine; 0 where it is out of range.
-    pub hidden: u32,
-}
+// What an operation hands back.
+pub type Done = stores::Done<Machine>;
 
 impl Machine {
     // One look at the machine, with one scan of its pending stores. The worker's call and the thieves are handed in, as copies that the caller goes on with.
@@ -49,61 +43,41 @@ impl Machine {
         requires { (call ≡ self.worker.call) × (thieves ≡ self.thieves) }
         ensures { result ≡ look self }
     {
-        let sizes = self.sizes;
-        let head = self.head;
-        let tail = self.tail;
-        let buffer = self.buffer;
-        let spacing = self.spacing;
-        let calls = call.in_range() & thieves_in_range(thieves);
-        Look::at(sizes, head, tail, buffer, spacing, calls)
+        let calls = call.in_range() & all_in_range(&thieves);
+        Look::at(
+            self.sizes,
+            self.head,
+            self.tail,
+            self.buffer,
+            self.spacing,
+            calls,
+        )
     }
 
     // Whether sizes, number of pending stores, spacing count and every index are in range.
     pub fn in_range(self) -> bool
         ensures { result ≡ in_range self }
     {
-        let worker = self.worker;
-        let call = worker.call;
-        let thieves = self.thieves;
-        let seen = self.look(call, thieves);
-        seen.ranged
+        self.look(self.worker.call, self.thieves).ranged
     }
 
     // What a thief's step loads: 0 where it loads from no slot.
-    pub(crate) fn memory_loads(self, load: Load) -> u32
+    pub(crate) fn memory_loads(self, load: Option<Index>) -> u32
         ensures { result ≡ memory_loads self load }
     {
         match load {
-            Load::NoSlot => return 0,
-            Load::SlotOf(index) => {
-                let memory = self.slots;
-                return memory_load(memory, self.sizes.slots, index);
-            }
+            None => 0,
+            Some(index) => memory_load(self.slots, self.sizes.slots, index),
         }
     }
 
     // What the worker's step loads: 0 where it loads from no slot.
-    pub(crate) fn worker_loads(self, load: Load) -> u32
+    pub(crate) fn worker_loads(self, load: Option<Index>) -> u32
         ensures { result ≡ worker_loads self load }
     {
         match load {
-            Load::NoSlot => return 0,
-            Load::SlotOf(index) => {
-                let memory = self.slots;
-                let buffer = self.buffer;
-                return worker_load(memory, buffer, self.sizes.slots, index);
-            }
-        }
-    }
-
-    // Handed back as it is, with this outcome.
-    pub(crate) fn refused(self, outcome: Outcome, hidden: u32) -> Done
-        ensures { result ≡ handing outcome hidden self }
-    {
-        Done {
-            machine: self,
-            outcome: outcome,
-            hidden: hidden,
+            None => 0,
+            Some(index) => worker_load(self.slots, self.buffer, self.sizes.slots, index),
         }
     }
 
@@ -111,37 +85,24 @@ impl Machine {
     pub fn fresh(sizes: Sizes) -> Machine
         ensures { result ≡ fresh sizes }
     {
-        let start = Index {
-            at: sizes.start as i64,
-        };
-        let client = Store {
-            kind: StoreKind::Client,
-        };
+        let start = Index::from(sizes.start);
         let idle = Thief {
             call: ThiefCall::Idle,
         };
-        // A store at a place that the compiler does not know keeps it from splitting the array into its cells (`docs/ARCHITECTURE.md`, "Where a run's time goes").
-        let mut stores = [client; 64];
-        stores[sizes.buffer as usize % 64] = client;
+        // As in `StoreBuffer::empty`, a store at a place that the compiler does not know.
         let mut thieves = [idle; 8];
         thieves[sizes.thieves as usize % 8] = idle;
         Machine {
-            sizes: sizes,
+            sizes,
             slots: [0; 256],
             head: start,
             tail: start,
-            buffer: StoreBuffer {
-                stores: stores,
-                count: 0,
-            },
-            spacing: Spacing {
-                count: 0,
-                begun: false,
-            },
+            buffer: StoreBuffer::empty(sizes.buffer),
+            spacing: Spacing::no_take(),
             worker: Worker {
                 call: WorkerCall::Idle,
             },
-            thieves: thieves,
+            thieves,
         }
     }
 }

@@ -1,5 +1,4 @@
 ghost use Rattle.std.specs.Prelude.{◌≡◌, true};
-ghost use Rattle.terms.specs.Lists.{all};
 ghost use Rattle.stores.specs.Index.{index_in_range};
 ghost use Rattle.cas.specs.Thief.{
   ThiefViewInRange,
@@ -13,7 +12,7 @@ ghost use Rattle.cas.specs.Thief.{
   thief_move,
 };
 
-use stores::{Index, Load};
+use stores::{InRange, Index};
 use terms::Outcome;
 
 // A thief's call in progress: one case for each step that is next, with what that step and later ones use.
@@ -60,46 +59,30 @@ pub struct ThiefMove {
     pub outcome: Outcome,
 }
 
-impl Thief {
+impl InRange for Thief {
+    ghost ranged = { λ thief. thief_in_range thief.call };
+
     // Whether every index that the call holds is in range.
-    pub(crate) fn in_range(self) -> bool
-        ensures { result ≡ thief_in_range self.call }
-    {
-        let call = self.call;
-        match call {
+    fn in_range(self) -> bool {
+        match self.call {
             ThiefCall::Idle | ThiefCall::StealLoadHead => true,
-            ThiefCall::StealLoadTail(h) => h.in_range(),
+            ThiefCall::StealLoadTail(h) | ThiefCall::StealSwapHead(_, h) => h.in_range(),
             ThiefCall::StealLoadSlot(h) => h.slot_in_range(),
-            ThiefCall::StealSwapHead(_, h) => h.in_range(),
         }
     }
 }
 
-// Whether every thief's call is in range.
-pub(crate) fn thieves_in_range(thieves: [Thief; 8]) -> bool
-    ensures { result ≡ all (λ t. thief_in_range t.call) thieves }
-{
-    let mut ok = true;
-    let mut i: usize = 0;
-    while i < 8 {
-        let thief = thieves[i];
-        ok = ok & thief.in_range();
-        i += 1;
-    }
-    ok
-}
-
 impl ThiefCall {
     // From which slot the next step loads.
-    pub(crate) fn loads(self) -> Load
+    pub(crate) fn loads(self) -> Option<Index>
         ensures { result ≡ loads self }
     {
         match self {
             ThiefCall::Idle
             | ThiefCall::StealLoadHead
             | ThiefCall::StealLoadTail(_)
-            | ThiefCall::StealSwapHead(_, _) => Load::NoSlot,
-            ThiefCall::StealLoadSlot(h) => Load::SlotOf(h),
+            | ThiefCall::StealSwapHead(_, _) => None,
+            ThiefCall::StealLoadSlot(h) => Some(h),
         }
     }
 }
@@ -109,12 +92,10 @@ impl ThiefView {
     pub(crate) fn stays(self, outcome: Outcome) -> ThiefMove
         ensures { result ≡ stays outcome self }
     {
-        let head = self.head;
-        let call = self.call;
         ThiefMove {
-            head: head,
-            call: call,
-            outcome: outcome,
+            head: self.head,
+            call: self.call,
+            outcome,
         }
     }
 
@@ -122,10 +103,9 @@ impl ThiefView {
     pub(crate) fn goes_on(self, call: ThiefCall) -> ThiefMove
         ensures { result ≡ goes_on call self }
     {
-        let head = self.head;
         ThiefMove {
-            head: head,
-            call: call,
+            head: self.head,
+            call,
             outcome: Outcome::Moved,
         }
     }
@@ -134,11 +114,10 @@ impl ThiefView {
     fn answers(self, outcome: Outcome) -> ThiefMove
         ensures { result ≡ answers outcome self }
     {
-        let head = self.head;
         ThiefMove {
-            head: head,
+            head: self.head,
             call: ThiefCall::Idle,
-            outcome: outcome,
+            outcome,
         }
     }
 
@@ -147,11 +126,10 @@ impl ThiefView {
         requires { (index_in_range h ≡ true) × (index_in_range self.tail ≡ true) }
         ensures { result ≡ steal_load_tail h self }
     {
-        let tail = self.tail;
-        if tail.at_most(h) {
+        if self.tail.at_most(h) {
             return self.answers(Outcome::Empty);
         }
-        if h.is_below_by_more(tail, self.margin) {
+        if h.is_below_by_more(self.tail, self.margin) {
             return self.goes_on(ThiefCall::StealLoadSlot(h));
         }
         self.answers(Outcome::Abort)
@@ -179,17 +157,11 @@ pub(crate) fn thief_move(view: ThiefView) -> ThiefMove
     requires { ThiefViewInRange view }
     ensures { result ≡ thief_move view.call view }
 {
-    let call = view.call;
-    match call {
-        ThiefCall::Idle => return view.stays(Outcome::Place),
-        ThiefCall::StealLoadHead => {
-            let head = view.head;
-            return view.goes_on(ThiefCall::StealLoadTail(head));
-        }
-        ThiefCall::StealLoadTail(h) => return view.steal_load_tail(h),
-        ThiefCall::StealLoadSlot(h) => {
-            return view.goes_on(ThiefCall::StealSwapHead(view.loaded, h));
-        }
-        ThiefCall::StealSwapHead(task, h) => return view.steal_swap_head(task, h),
+    match view.call {
+        ThiefCall::Idle => view.stays(Outcome::Place),
+        ThiefCall::StealLoadHead => view.goes_on(ThiefCall::StealLoadTail(view.head)),
+        ThiefCall::StealLoadTail(h) => view.steal_load_tail(h),
+        ThiefCall::StealLoadSlot(h) => view.goes_on(ThiefCall::StealSwapHead(view.loaded, h)),
+        ThiefCall::StealSwapHead(task, h) => view.steal_swap_head(task, h),
     }
 }

@@ -22,7 +22,7 @@ ghost use Rattle.cas.specs.Worker.{
   worker_runs,
 };
 
-use stores::{Index, Load, Maker, Push, StoreKind};
+use stores::{Index, Maker, StoreKind};
 use terms::Outcome;
 
 // The worker's call in progress: one case for each step that is next, with what that step and later ones use.
@@ -52,7 +52,7 @@ pub enum WorkerCall {
     TakeLoadLastSlot(Index),
 }
 
-// What the worker sees at an entry of its own.
+// What the worker sees at an entry of its own. That it is in range is a `requires` of its steps and no ghost field: definitions make a view of any machine, in range or not.
 #[derive(Clone, Copy)]
 pub struct WorkerView {
     // Its call in progress.
@@ -73,7 +73,7 @@ pub struct WorkerView {
 // What the entry does: the store that it makes, head and the call after it, and its outcome.
 #[derive(Clone, Copy)]
 pub struct WorkerMove {
-    pub push: Push,
+    pub push: Option<(Maker, StoreKind)>,
     pub head: Index,
     pub call: WorkerCall,
     pub outcome: Outcome,
@@ -90,12 +90,11 @@ impl WorkerCall {
             | WorkerCall::PutStoreSlot(_)
             | WorkerCall::PutStoreTail
             | WorkerCall::TakeStoreTail => true,
-            WorkerCall::TakeLoadHead(t) => t.in_range(),
-            WorkerCall::TakeLoadSlot(t) => t.slot_in_range(),
-            WorkerCall::TakeTailToHead(h) => h.in_range(),
-            WorkerCall::TakeTailPastHead(t) => t.in_range(),
-            WorkerCall::TakeSwapHead(t) => t.in_range(),
-            WorkerCall::TakeLoadLastSlot(t) => t.slot_in_range(),
+            WorkerCall::TakeLoadHead(t)
+            | WorkerCall::TakeTailToHead(t)
+            | WorkerCall::TakeTailPastHead(t)
+            | WorkerCall::TakeSwapHead(t) => t.in_range(),
+            WorkerCall::TakeLoadSlot(t) | WorkerCall::TakeLoadLastSlot(t) => t.slot_in_range(),
         }
     }
 
@@ -103,15 +102,11 @@ impl WorkerCall {
     pub(crate) fn runs(self) -> bool
         ensures { result ≡ worker_runs self }
     {
-        if let WorkerCall::Idle = self {
-            false
-        } else {
-            true
-        }
+        !matches!(self, WorkerCall::Idle)
     }
 
     // From which slot the next step loads.
-    pub(crate) fn loads(self) -> Load
+    pub(crate) fn loads(self) -> Option<Index>
         ensures { result ≡ loads self }
     {
         match self {
@@ -123,28 +118,8 @@ impl WorkerCall {
             | WorkerCall::TakeLoadHead(_)
             | WorkerCall::TakeTailToHead(_)
             | WorkerCall::TakeTailPastHead(_)
-            | WorkerCall::TakeSwapHead(_) => Load::NoSlot,
-            WorkerCall::TakeLoadSlot(t) => Load::SlotOf(t),
-            WorkerCall::TakeLoadLastSlot(t) => Load::SlotOf(t),
-        }
-    }
-
-    // The same, case by case: an enum that is copied whole takes its padding along, through every step of an entry (`docs/ARCHITECTURE.md`, "Where a run's time goes").
-    pub(crate) fn copied(self) -> WorkerCall
-        ensures { result ≡ self }
-    {
-        match self {
-            WorkerCall::Idle => WorkerCall::Idle,
-            WorkerCall::PutLoadHead(task) => WorkerCall::PutLoadHead(task),
-            WorkerCall::PutStoreSlot(task) => WorkerCall::PutStoreSlot(task),
-            WorkerCall::PutStoreTail => WorkerCall::PutStoreTail,
-            WorkerCall::TakeStoreTail => WorkerCall::TakeStoreTail,
-            WorkerCall::TakeLoadHead(t) => WorkerCall::TakeLoadHead(t),
-            WorkerCall::TakeLoadSlot(t) => WorkerCall::TakeLoadSlot(t),
-            WorkerCall::TakeTailToHead(h) => WorkerCall::TakeTailToHead(h),
-            WorkerCall::TakeTailPastHead(t) => WorkerCall::TakeTailPastHead(t),
-            WorkerCall::TakeSwapHead(t) => WorkerCall::TakeSwapHead(t),
-            WorkerCall::TakeLoadLastSlot(t) => WorkerCall::TakeLoadLastSlot(t),
+            | WorkerCall::TakeSwapHead(_) => None,
+            WorkerCall::TakeLoadSlot(t) | WorkerCall::TakeLoadLastSlot(t) => Some(t),
         }
     }
 }
@@ -154,13 +129,11 @@ impl WorkerView {
     pub(crate) fn stays(self, outcome: Outcome) -> WorkerMove
         ensures { result ≡ stays outcome self }
     {
-        let head = self.head;
-        let call = self.call;
         WorkerMove {
-            push: Push::Nothing,
-            head: head,
-            call: call,
-            outcome: outcome,
+            push: None,
+            head: self.head,
+            call: self.call,
+            outcome,
         }
     }
 
@@ -168,11 +141,10 @@ impl WorkerView {
     pub(crate) fn goes_on(self, call: WorkerCall) -> WorkerMove
         ensures { result ≡ goes_on call self }
     {
-        let head = self.head;
         WorkerMove {
-            push: Push::Nothing,
-            head: head,
-            call: call,
+            push: None,
+            head: self.head,
+            call,
             outcome: Outcome::Moved,
         }
     }
@@ -181,26 +153,29 @@ impl WorkerView {
     fn answers(self, outcome: Outcome) -> WorkerMove
         ensures { result ≡ answers outcome self }
     {
-        let head = self.head;
         WorkerMove {
-            push: Push::Nothing,
-            head: head,
+            push: None,
+            head: self.head,
             call: WorkerCall::Idle,
-            outcome: outcome,
+            outcome,
         }
     }
 
     // A store is made, for which there must be room.
-    pub(crate) fn stores(self, made: Push, outcome: Outcome, call: WorkerCall) -> WorkerMove
+    pub(crate) fn stores(
+        self,
+        made: Option<(Maker, StoreKind)>,
+        outcome: Outcome,
+        call: WorkerCall,
+    ) -> WorkerMove
         ensures { result ≡ storing made outcome call self }
     {
         if self.room {
-            let head = self.head;
             return WorkerMove {
                 push: made,
-                head: head,
-                call: call,
-                outcome: outcome,
+                head: self.head,
+                call,
+                outcome,
             };
         }
         self.stays(Outcome::Wait)
@@ -210,9 +185,8 @@ impl WorkerView {
     fn at_end(self) -> bool
         ensures { result ≡ at_end self }
     {
-        let tail = self.tail;
         let end = Index { at: 2147483647 };
-        tail.at_most(end) & end.at_most(tail)
+        self.tail.at_most(end) & end.at_most(self.tail)
     }
 
     // Put, step 1: load head. The put ends here if the tail is at its end or every slot is taken.
@@ -220,12 +194,10 @@ impl WorkerView {
         requires { WorkerViewInRange self }
         ensures { result ≡ put_load_head task self }
     {
-        let tail = self.tail;
-        let head = self.head;
         if self.at_end() {
             return self.answers(Outcome::End);
         }
-        if tail.is_above_by(head, self.slots) {
+        if self.tail.is_above_by(self.head, self.slots) {
             return self.answers(Outcome::Full);
         }
         self.goes_on(WorkerCall::PutStoreSlot(task))
@@ -235,9 +207,8 @@ impl WorkerView {
     fn put_store_slot(self, task: u32) -> WorkerMove
         ensures { result ≡ put_store_slot task self }
     {
-        let tail = self.tail;
         self.stores(
-            Push::One(Maker::APut, StoreKind::Slot(task, tail)),
+            Some((Maker::APut, StoreKind::Slot(task, self.tail))),
             Outcome::Moved,
             WorkerCall::PutStoreTail,
         )
@@ -248,9 +219,8 @@ impl WorkerView {
         requires { WorkerViewInRange self }
         ensures { result ≡ put_store_tail self }
     {
-        let tail = self.tail;
         self.stores(
-            Push::One(Maker::APut, StoreKind::Tail(tail.next())),
+            Some((Maker::APut, StoreKind::Tail(self.tail.next()))),
             Outcome::Stored,
             WorkerCall::Idle,
         )
@@ -261,10 +231,9 @@ impl WorkerView {
         requires { WorkerViewInRange self }
         ensures { result ≡ take_store_tail self }
     {
-        let tail = self.tail;
-        let t = tail.previous();
+        let t = self.tail.previous();
         self.stores(
-            Push::One(Maker::ATake, StoreKind::Tail(t)),
+            Some((Maker::ATake, StoreKind::Tail(t))),
             Outcome::Moved,
             WorkerCall::TakeLoadHead(t),
         )
@@ -289,7 +258,7 @@ impl WorkerView {
         ensures { result ≡ take_tail_to_head h self }
     {
         self.stores(
-            Push::One(Maker::ATake, StoreKind::Tail(h)),
+            Some((Maker::ATake, StoreKind::Tail(h))),
             Outcome::Empty,
             WorkerCall::Idle,
         )
@@ -301,7 +270,7 @@ impl WorkerView {
         ensures { result ≡ take_tail_past_head t self }
     {
         self.stores(
-            Push::One(Maker::ATake, StoreKind::Tail(t.next())),
+            Some((Maker::ATake, StoreKind::Tail(t.next()))),
             Outcome::Moved,
             WorkerCall::TakeSwapHead(t),
         )
@@ -318,7 +287,7 @@ impl WorkerView {
         }
         if t.at_most(head) & head.at_most(t) {
             return WorkerMove {
-                push: Push::Nothing,
+                push: None,
                 head: t.next(),
                 call: WorkerCall::TakeLoadLastSlot(t),
                 outcome: Outcome::Moved,
@@ -340,18 +309,16 @@ pub(crate) fn worker_move(view: WorkerView) -> WorkerMove
     requires { WorkerViewInRange view }
     ensures { result ≡ worker_move view.call view }
 {
-    let call = view.call;
-    match call {
-        WorkerCall::Idle => return view.stays(Outcome::Place),
-        WorkerCall::PutLoadHead(task) => return view.put_load_head(task),
-        WorkerCall::PutStoreSlot(task) => return view.put_store_slot(task),
-        WorkerCall::PutStoreTail => return view.put_store_tail(),
-        WorkerCall::TakeStoreTail => return view.take_store_tail(),
-        WorkerCall::TakeLoadHead(t) => return view.take_load_head(t),
-        WorkerCall::TakeLoadSlot(_) => return view.take_load_slot(),
-        WorkerCall::TakeTailToHead(h) => return view.take_tail_to_head(h),
-        WorkerCall::TakeTailPastHead(t) => return view.take_tail_past_head(t),
-        WorkerCall::TakeSwapHead(t) => return view.take_swap_head(t),
-        WorkerCall::TakeLoadLastSlot(_) => return view.take_load_slot(),
+    match view.call {
+        WorkerCall::Idle => view.stays(Outcome::Place),
+        WorkerCall::PutLoadHead(task) => view.put_load_head(task),
+        WorkerCall::PutStoreSlot(task) => view.put_store_slot(task),
+        WorkerCall::PutStoreTail => view.put_store_tail(),
+        WorkerCall::TakeStoreTail => view.take_store_tail(),
+        WorkerCall::TakeLoadHead(t) => view.take_load_head(t),
+        WorkerCall::TakeLoadSlot(_) | WorkerCall::TakeLoadLastSlot(_) => view.take_load_slot(),
+        WorkerCall::TakeTailToHead(h) => view.take_tail_to_head(h),
+        WorkerCall::TakeTailPastHead(t) => view.take_tail_past_head(t),
+        WorkerCall::TakeSwapHead(t) => view.take_swap_head(t),
     }
 }

@@ -80,11 +80,7 @@ pub fn chart() -> [u8; 4096]
 fn is_charted(buffer: u32, spacing: u32) -> bool
     ensures { result ≡ is_charted buffer spacing }
 {
-    if terms::within(1, 64, buffer) {
-        terms::within(0, 63, spacing)
-    } else {
-        false
-    }
+    terms::within(1, 64, buffer) && terms::within(0, 63, spacing)
 }
 
 // The needed margin, looked up; 0 where the chart does not have the buffer size or the spacing.
@@ -92,10 +88,8 @@ pub fn charted_margin(buffer: u32, spacing: u32) -> u32
     ensures { result ≡ charted_margin buffer spacing }
 {
     if is_charted(buffer, spacing) {
-        let row = buffer - 1;
-        let place = (64 * row + spacing) as usize;
-        let margins = chart();
-        margins[place] as u32
+        let place = (64 * (buffer - 1) + spacing) as usize;
+        chart()[place] as u32
     } else {
         0
     }

@@ -1,11 +1,10 @@
 -- Whether two schedules are alike. Renders, of "The numbers", the two sentences on alike schedules.
-use Rattle.std.specs.Prelude.{◌≡◌, Bool, true, false, cond, ◌&&◌, List, [], ◌∷◌, ℕ, ◌+◌, ◌<◌, eqb}
+use Rattle.std.specs.Prelude.{◌≡◌, Bool, true, false, cond, ◌&&◌, List, [], ◌∷◌, ℕ, ◌+◌, ◌<◌, eqb, Result, Ok, Err}
 use Rattle.terms.specs.Kinds.{party_number}
 use Rattle.terms.specs.Lists.{all, range}
 use Rattle.terms.specs.Outcome.{is_answer}
 use Rattle.terms.specs.Refusal.{Refuses}
-use Rattle.comparison.specs.Types.{Accepted, Alike, Entry, FirstRefused, Likeness, NotAlike, Outcome, Reading, SecondRefused, Sizes}
-use Rattle.schedule.specs.declared.reader.Reading.TheVariants as reading
+use Rattle.comparison.specs.Types.{Entry, First, Outcome, Refusal, RefusedFile, Second, Sizes}
 use Rattle.schedule.specs.Faults.{file_has}
 use Rattle.schedule.specs.Reader.{read_file}
 use Rattle.schedule.specs.Run.{outcomes_in, schedule_in}
@@ -46,21 +45,20 @@ same_sizes s t =
 abbrev pub same_answers : ℕ → List ℕ → List ℕ → Bool
 same_answers thieves first second = all (λ party. same_lines (answers_of party first) (answers_of party second)) (range (thieves + 1))
 
-abbrev pub likeness_of : List ℕ → List ℕ → Reading → Reading → Likeness
-likeness_of first second (reading.Refused r) other = FirstRefused r
-likeness_of first second (Accepted s n) (reading.Refused r) = SecondRefused r
-likeness_of first second (Accepted s n) (Accepted t m) = cond (same_sizes s t && same_answers s.thieves first second) Alike NotAlike
+abbrev pub likeness_of : List ℕ → List ℕ → Result (Sizes × ℕ) Refusal → Result (Sizes × ℕ) Refusal → Result Bool RefusedFile
+likeness_of first second (Err r) other = Err (First r)
+likeness_of first second (Ok (s, n)) (Err r) = Err (Second r)
+likeness_of first second (Ok (s, n)) (Ok (t, m)) = Ok (same_sizes s t && same_answers s.thieves first second)
 
 -- whether two files are alike; a refused file decides, the first one first
-abbrev pub likeness : List ℕ → List ℕ → Likeness
+abbrev pub likeness : List ℕ → List ℕ → Result Bool RefusedFile
 likeness first second = likeness_of first second (read_file first) (read_file second)
 
 -- Which faults two compared files have, by the refusal in the answer: number and place are those of a fault of the first file; or it has none, and they are those of a fault of the second; or neither has one.
-abbrev pub LikenessRefuses : List ℕ → List ℕ → Likeness → Type 0
-LikenessRefuses first second Alike = Refuses (file_has first) [] × Refuses (file_has second) []
-LikenessRefuses first second NotAlike = Refuses (file_has first) [] × Refuses (file_has second) []
-LikenessRefuses first second (FirstRefused r) = Refuses (file_has first) (r ∷ [])
-LikenessRefuses first second (SecondRefused r) = Refuses (file_has first) [] × Refuses (file_has second) (r ∷ [])
+abbrev pub LikenessRefuses : List ℕ → List ℕ → Result Bool RefusedFile → Type 0
+LikenessRefuses first second (Ok same) = Refuses (file_has first) [] × Refuses (file_has second) []
+LikenessRefuses first second (Err (First r)) = Refuses (file_has first) (r ∷ [])
+LikenessRefuses first second (Err (Second r)) = Refuses (file_has first) [] × Refuses (file_has second) (r ∷ [])
 
 -- ── What alike means ────────────────────────────────────────────────────────────────────────────────────────────────────────
 
@@ -73,7 +71,7 @@ pub record Equals (first second : List ℕ) (s t : Sizes) : Type 0 where
 abbrev pub AlikeExactly : Type 0
 AlikeExactly =
     (first second : List ℕ) (s t : Sizes) (n m : ℕ)
-    → read_file first ≡ Accepted s n → read_file second ≡ Accepted t m
-    → (likeness first second ≡ Alike → Equals first second s t)
-    × (Equals first second s t → likeness first second ≡ Alike)
-    × ((Equals first second s t → ⊥) → likeness first second ≡ NotAlike)
+    → read_file first ≡ Ok (s, n) → read_file second ≡ Ok (t, m)
+    → (likeness first second ≡ Ok true → Equals first second s t)
+    × (Equals first second s t → likeness first second ≡ Ok true)
+    × ((Equals first second s t → ⊥) → likeness first second ≡ Ok false)

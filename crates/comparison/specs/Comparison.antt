@@ -1,43 +1,37 @@
 -- How two runs are compared, party by party and entry by entry, in the bytes of their traces. Nothing here is of the paper: `Alike` says what is compared, and here stands what the functions promise each other
 -- that compare it. `proofs/Laws/Alike.antt` has that both are equal.
-use Rattle.std.specs.Prelude.{Bool, cond, ◌&&◌, List, [], ◌∷◌, ℕ, zero, suc, ◌+◌, ◌-◌, eqb, length}
+use Rattle.std.specs.Prelude.{◌≡◌, Bool, ◌&&◌, List, filter, map, ℕ, ◌+◌, eqb, length}
 use Rattle.terms.specs.Outcome.{is_answer_number}
-use Rattle.terms.specs.Lists.{all, concat_map, range_from, range}
-use Rattle.comparison.specs.Types.{Sizes}
+use Rattle.terms.specs.Lists.{all, range}
+use Rattle.comparison.specs.Types.{Run, Sizes}
 use Rattle.terms.specs.Kinds.{party_number}
 use Rattle.comparison.specs.Alike.{answers_for, same_lines}
 use Rattle.schedule.specs.Entries.{entry_at, entry_to_obey}
+use Rattle.schedule.specs.Format.{words_in}
 use Rattle.schedule.specs.Run.{entries_of, outcomes_from}
 use Rattle.schedule.specs.Trace.{Line, line_in}
 
--- no party's answers differ between the runs of two schedules with these sizes, each given by its kinds and operands
-abbrev pub same_runs : Sizes → List ℕ → List ℕ → List ℕ → List ℕ → Bool
-same_runs s kinds operands others other-operands =
-    all
-    (λ party. same_lines (answers_for party (entries_of s kinds operands) (outcomes_from s kinds operands)) (answers_for party (entries_of s others other-operands) (outcomes_from s others other-operands)))
-    (range (s.thieves + 1))
+-- the line at a place of a run's trace
+unfoldable pub line_at : Run → ℕ → Line
+line_at r at = line_in (length r.kinds.now) r.trace at
 
--- of kinds, operands and the trace of their run: whether the entry at a place gets an answer, and for the party
-abbrev pub answered : ℕ → Sizes → List ℕ → List ℕ → List ℕ → ℕ → Bool
-answered party s kinds operands trace at =
-    is_answer_number (line_in (length kinds) trace at).number && eqb (party_number (entry_to_obey (entry_at s kinds operands at))) party
+-- whether the entry at a place of a run gets an answer, and for the party
+unfoldable pub answered : ℕ → Run → ℕ → Bool
+answered party r at = is_answer_number (line_at r at).number && eqb (party_number (entry_to_obey (entry_at r.sizes r.kinds.now (words_in r.operands.now) at))) party
 
--- of so many places, from a given one on, the first at which a test passes, or else the one behind the last
-abbrev pub first_from : (ℕ → Bool) → ℕ → ℕ → ℕ
-first_from test at zero = at
-first_from test at (suc more) = cond (test at) at (first_from test (suc at) more)
+-- the party's answers in a run
+abbrev pub lines_for : ℕ → Run → List Line
+lines_for party r = map (line_at r) (filter (answered party r) (range (length r.kinds.now)))
 
--- the party's answers from a place on
-abbrev pub lines_from : ℕ → Sizes → List ℕ → List ℕ → List ℕ → ℕ → List Line
-lines_from party s kinds operands trace at =
-    concat_map (λ i. cond (answered party s kinds operands trace i) (line_in (length kinds) trace i ∷ []) []) (range_from at (length kinds - at))
+-- a run of a schedule with these sizes, kinds and operands, of which its trace tells each party's answers
+pub record RunOf (s : Sizes) (kinds operands : List ℕ) (r : Run) : Type 0 where
+  pub sizes : r.sizes ≡ s
+  pub answers : (party : ℕ) → lines_for party r ≡ answers_for party (entries_of s kinds (words_in operands)) (outcomes_from s kinds (words_in operands))
 
 -- a party gets the same answers in two runs
-abbrev pub same_for : Sizes → List ℕ → List ℕ → List ℕ → List ℕ → List ℕ → List ℕ → ℕ → Bool
-same_for s kinds operands trace others other-operands other-trace party =
-    same_lines (lines_from party s kinds operands trace 0) (lines_from party s others other-operands other-trace 0)
+abbrev pub same_for : Run → Run → ℕ → Bool
+same_for r other party = same_lines (lines_for party r) (lines_for party other)
 
 -- the worker and each thief do
-abbrev pub same_for_all : Sizes → List ℕ → List ℕ → List ℕ → List ℕ → List ℕ → List ℕ → Bool
-same_for_all s kinds operands trace others other-operands other-trace =
-    all (same_for s kinds operands trace others other-operands other-trace) (range (s.thieves + 1))
+abbrev pub same_for_all : Run → Run → Bool
+same_for_all r other = all (same_for r other) (range (r.sizes.thieves + 1))

@@ -1,10 +1,10 @@
 -- Pairs of schedules, as one table over the definitions: pairs that are alike or differ in one thing, and refused files. `proofs/Pairs.antt` proves one fact: every row holds.
-use Rattle.std.specs.Prelude.{Bool, true, false, List, [], ◌∷◌, ◌++◌, ℕ}
+use Rattle.std.specs.Prelude.{Bool, false, not, List, [], ◌∷◌, ◌++◌, ℕ, Result, Ok, Err}
 use Rattle.schedule.specs.Format.{file_of}
 use Rattle.terms.specs.Sizes.{sized}
 use Rattle.terms.specs.Refusal.{refused_by}
 use Rattle.schedule.specs.Runs.{drains, file, put, steal, take}
-use Rattle.comparison.specs.Types.{Alike, FirstRefused, Likeness, NotAlike, SecondRefused}
+use Rattle.comparison.specs.Types.{First, RefusedFile, Second}
 use Rattle.comparison.specs.Types.{BeginPut, BeginSteal, BeginTake, Drain, Entry, ThiefStep, WorkerStep}
 use Rattle.comparison.specs.Alike.{likeness}
 
@@ -18,29 +18,23 @@ pub data Row : Type 0 where
   refuses_first : (first second : List ℕ) (number place : ℕ) → Row
   refuses_second : (first second : List ℕ) (number place : ℕ) → Row
 
-abbrev pub is_like : Likeness → Bool
-is_like Alike = true
-is_like NotAlike = false
-is_like (FirstRefused r) = false
-is_like (SecondRefused r) = false
+abbrev pub is_like : Result Bool RefusedFile → Bool
+is_like (Ok same) = same
+is_like (Err r) = false
 
-abbrev pub is_unlike : Likeness → Bool
-is_unlike Alike = false
-is_unlike NotAlike = true
-is_unlike (FirstRefused r) = false
-is_unlike (SecondRefused r) = false
+abbrev pub is_unlike : Result Bool RefusedFile → Bool
+is_unlike (Ok same) = not same
+is_unlike (Err r) = false
 
-abbrev pub is_first_refused : ℕ → ℕ → Likeness → Bool
-is_first_refused number place Alike = false
-is_first_refused number place NotAlike = false
-is_first_refused number place (FirstRefused r) = refused_by r number place
-is_first_refused number place (SecondRefused r) = false
+abbrev pub is_first_refused : ℕ → ℕ → Result Bool RefusedFile → Bool
+is_first_refused number place (Ok same) = false
+is_first_refused number place (Err (First r)) = refused_by r number place
+is_first_refused number place (Err (Second r)) = false
 
-abbrev pub is_second_refused : ℕ → ℕ → Likeness → Bool
-is_second_refused number place Alike = false
-is_second_refused number place NotAlike = false
-is_second_refused number place (FirstRefused r) = false
-is_second_refused number place (SecondRefused r) = refused_by r number place
+abbrev pub is_second_refused : ℕ → ℕ → Result Bool RefusedFile → Bool
+is_second_refused number place (Ok same) = false
+is_second_refused number place (Err (First r)) = false
+is_second_refused number place (Err (Second r)) = refused_by r number place
 
 abbrev pub holds : Row → Bool
 holds (like first second) = is_like (likeness first second)

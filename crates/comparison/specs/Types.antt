@@ -2,8 +2,8 @@
 pub use Rattle.terms.specs.declared.entry.Entry.{Entry}
 pub use Rattle.terms.specs.declared.entry.Entry.TheVariants.{Drain, ClientStore, BeginPut, BeginTake, WorkerStep, BeginSteal, ThiefStep}
 pub use Rattle.terms.specs.declared.outcome.Outcome.{Outcome}
+pub use Rattle.terms.specs.declared.refusal.Refusal.{Refusal}
 pub use Rattle.terms.specs.declared.sizes.Sizes.{Sizes}
-pub use Rattle.schedule.specs.declared.reader.Reading.{Reading}
-pub use Rattle.schedule.specs.declared.reader.Reading.TheVariants.{Accepted}
-pub use Rattle.comparison.specs.declared.likeness.Likeness.{Likeness}
-pub use Rattle.comparison.specs.declared.likeness.Likeness.TheVariants.{Alike, NotAlike, FirstRefused, SecondRefused}
+pub use Rattle.comparison.specs.declared.likeness.RefusedFile.{RefusedFile}
+pub use Rattle.comparison.specs.declared.likeness.RefusedFile.TheVariants.{First, Second}
+pub use Rattle.comparison.specs.declared.run.Run.{Run}

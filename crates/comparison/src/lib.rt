@@ -5,9 +5,13 @@
 // that for the bytes of two files, or tells which of them is refused, and why. It needs no memory from its caller: it runs
 // both files into traces of its own and compares what stands there, party by party.
 //
-// What is promised is `likeness` (`specs/Alike.antt`); that alike is equality of sizes and answers is a theorem beside it.
+// What is promised is `likeness` (`specs/Alike.antt`); that alike is equality of sizes and answers is a theorem beside it. Reading order:
+//
+// - `run`: a schedule that is run, and its answers compared with those in another run;
+// - `likeness`: two files as a whole.
 #![tactic(auto)]
 
 mod likeness;
+mod run;
 
-pub use likeness::{Likeness, alike};
+pub use likeness::{RefusedFile, alike};

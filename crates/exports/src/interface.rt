@@ -5,14 +5,14 @@ ghost use Rattle.share_sheet.specs.Sheet.{sheet_after, make_sheet};
 ghost use Rattle.terms.specs.Sizes.{needed_margin, sized};
 ghost use Rattle.writer.specs.Writer.{buffer_after, write_file};
 ghost use Rattle.exports.specs.Types.{FfCl, FfThe};
-ghost use Rattle.exports.specs.Answer.{likeness_answer, reading_answer, run_into, running_answer, sheet_answer, sizes_after, totals_after, trace_into, writing_answer};
+ghost use Rattle.exports.specs.Answer.{likeness_answer, reading_answer, result_answer, run_into, running_answer, sizes_after, totals_after, trace_into};
 
-use crate::answer::{answer_of, likeness_of, put_sizes, put_summary};
-use comparison::alike;
-use schedule::{Queue, Reading, Running, read, refusal_of, run_on};
-use share_sheet::{Sheet, share_sheet};
+use crate::answer::{answer_of, put_sizes, put_summary, refusal_answer};
+use comparison::{RefusedFile, alike};
+use schedule::{Queue, read, refusal_of, run_on};
+use share_sheet::share_sheet;
 use terms::{Refusal, Sizes, needed_margin};
-use writer::{Writing, write};
+use writer::write;
 
 // Reads a schedule file. Tells the number of its entries, and puts its six sizes, as written, into the 24 bytes that are lent for them; with fewer, it is ROOM.
 #[unsafe(no_mangle)]
@@ -20,15 +20,14 @@ pub extern "C" fn rehearsal_read(file: &[u8], sizes: &mut [u8]) -> u64
     ensures value { result ≡ reading_answer (read_file file.now) sizes.old }
     ensures sizes_after { sizes.new ≡ sizes_after (read_file file.now) sizes.old }
 {
-    let reading = read(file);
-    let Reading::Accepted(found, entries) = reading else {
-        return answer_of(refusal_of(reading));
-    };
-    if sizes.len() < 24 {
-        return answer_of(Refusal::Room);
+    match read(file) {
+        Ok(_) if sizes.len() < 24 => refusal_answer(Refusal::Room),
+        Ok((found, entries)) => {
+            put_sizes(sizes, found);
+            entries as u64
+        }
+        Err(refusal) => refusal_answer(refusal),
     }
-    put_sizes(sizes, found);
-    entries as u64
 }
 
 // Runs a schedule file on the queue that is named, as the two functions below tell it.
@@ -38,15 +37,14 @@ fn run_into(queue: Queue, file: &[u8], trace: &mut [u8], totals: &mut [u8]) -> u
     ensures totals_after { totals.new ≡ totals_after (run_into queue file.now (length trace.old) totals.old) totals.old }
 {
     if totals.len() < 16 {
-        return answer_of(refusal_of(read(file)));
+        return refusal_answer(refusal_of(read(file)));
     }
-    let running = run_on(queue, file, trace);
-    match running {
-        Running::Ran(summary) => {
+    match run_on(queue, file, trace) {
+        Ok(summary) => {
             put_summary(totals, summary);
             0
         }
-        Running::Refused(refusal) => answer_of(refusal),
+        Err(refusal) => refusal_answer(refusal),
     }
 }
 
@@ -76,7 +74,10 @@ pub extern "C" fn rehearsal_cas_run(file: &[u8], trace: &mut [u8], totals: &mut 
 pub extern "C" fn rehearsal_alike(first: &[u8], second: &[u8]) -> u64
     ensures { result ≡ likeness_answer (likeness first.now second.now) }
 {
-    likeness_of(alike(first, second))
+    match alike(first, second) {
+        Ok(same) => u64::from(same),
+        Err(RefusedFile::First(refusal) | RefusedFile::Second(refusal)) => refusal_answer(refusal),
+    }
 }
 
 // Writes the file of six sizes, kinds and operands. Tells how many bytes the file has.
@@ -92,35 +93,27 @@ pub extern "C" fn rehearsal_write(
     operands: &[u32],
     file: &mut [u8],
 ) -> u64
-    ensures value { result ≡ writing_answer (write_file (sized slots buffer spacing margin thieves start) kinds.now operands.now (length file.old)) }
+    ensures value { result ≡ result_answer (write_file (sized slots buffer spacing margin thieves start) kinds.now operands.now (length file.old)) }
     ensures file_after { file.new ≡ buffer_after (sized slots buffer spacing margin thieves start) kinds.now operands.now file.old }
 {
     let sizes = Sizes {
-        slots: slots,
-        buffer: buffer,
-        spacing: spacing,
-        margin: margin,
-        thieves: thieves,
-        start: start,
+        slots,
+        buffer,
+        spacing,
+        margin,
+        thieves,
+        start,
     };
-    let writing = write(sizes, kinds, operands, file);
-    match writing {
-        Writing::Written(bytes) => bytes as u64,
-        Writing::Refused(refusal) => answer_of(refusal),
-    }
+    answer_of(write(sizes, kinds, operands, file))
 }
 
 // Makes the share sheet of a schedule file and a count of blocks. Tells how many bytes the sheet has.
 #[unsafe(no_mangle)]
 pub extern "C" fn rehearsal_share_sheet(file: &[u8], count: u32, sheet: &mut [u8]) -> u64
-    ensures value { result ≡ sheet_answer (make_sheet file.now count (length sheet.old)) }
+    ensures value { result ≡ result_answer (make_sheet file.now count (length sheet.old)) }
     ensures sheet_after { sheet.new ≡ sheet_after file.now count sheet.old }
 {
-    let made = share_sheet(file, count, sheet);
-    match made {
-        Sheet::Written(bytes) => bytes as u64,
-        Sheet::Refused(refusal) => answer_of(refusal),
-    }
+    answer_of(share_sheet(file, count, sheet))
 }
 
 // The margin that a buffer of this size needs where takes are spaced so far apart.

@@ -8,10 +8,8 @@ use lib.Dec.{eqb, ltb}
 use lib.ListN.{length, drop, get_or, length-drop, take, take-append-drop}
 use lib.Seq.{drop-append-le, length-take-le, take_all, take-append-le}
 use borrow.Author.Tests.{le-ltb, ltb-false, ltb-true, ne_eqb}
+use Rattle.std.proofs.Common.{Result, Ok, Err}
 use Rattle.number.specs.Number.{of_bytes}
-use Rattle.schedule.specs.declared.check.Check.{Check}
-use Rattle.schedule.specs.declared.check.Check.TheVariants.{Passed, Failed}
-use Rattle.schedule.specs.declared.reader.Reading.TheVariants as reading
 use Rattle.terms.specs.declared.refusal.Refusal.TheVariants.{Short}
 use Rattle.schedule.specs.Check.{check_ranges, fail_if, first}
 use Rattle.schedule.specs.Entries.{check_entries}
@@ -31,43 +29,43 @@ decode_front (w ∷ ws) front rest inside =
     λ i. of_bytes (take-append-le w front rest (omega arith) i) ∷ (ap (decode ws) (drop-append-le w front rest (omega arith)) ∙ others) i
 
 -- the check of the sizes that stand in a file
-abbrev ranges_in : List ℕ → Check
+abbrev ranges_in : List ℕ → Result Unit Refusal
 ranges_in file = check_ranges (sizes_in file) (entries_in file)
 
 ranges_front : (front rest : List ℕ) → 28 ≤ length front → ranges_in (front ++ rest) ≡ ranges_in front
 ranges_front front rest inside = ap of_sizes (decode_front (layout 0) front rest inside)
   where
-    of_sizes : List ℕ → Check
+    of_sizes : List ℕ → Result Unit Refusal
     of_sizes l =
         check_ranges (record { slots = get_or l 0 0; buffer = get_or l 1 0; spacing = get_or l 2 0; margin = get_or l 3 0; thieves = get_or l 4 0; start = get_or l 5 0 }) (get_or l 6 0)
 
 -- the refusal of an overlong input: a size out of its range, else SHORT
-abbrev overlong : Check → Refusal
-overlong Passed = Short
-overlong (Failed r) = r
+abbrev overlong : Result Unit Refusal → Refusal
+overlong (Ok _) = Short
+overlong (Err r) = r
 
-overlong_read : (file : List ℕ) → 20508 < length file → read_file file ≡ reading.Refused (overlong (ranges_in file))
+overlong_read : (file : List ℕ) → 20508 < length file → read_file file ≡ Err (overlong (ranges_in file))
 overlong_read file long = go (ranges_in file) refl
   where
     n : ℕ
     n = entries_in file
 
-    entries : Check
+    entries : Result Unit Refusal
     entries = check_entries (sizes_in file) (kinds_in n file) (operands_in n file)
 
-    enough : fail_if (ltb (length file) 28) Short ≡ Passed
+    enough : fail_if (ltb (length file) 28) Short ≡ Ok tt
     enough = ap (λ t. fail_if t Short) (le-ltb (length file) 28 (omega arith))
 
-    too_long : n ≤ 4096 → fail_if (not (eqb (length file) (28 + 5 * n))) Short ≡ Failed Short
+    too_long : n ≤ 4096 → fail_if (not (eqb (length file) (28 + 5 * n))) Short ≡ Err Short
     too_long few = ap (λ t. fail_if (not t) Short) (ne_eqb (length file) (28 + 5 * n) (λ same. omega (arith, same)))
 
-    go : (c : Check) → ranges_in file ≡ c → read_file file ≡ reading.Refused (overlong (ranges_in file))
-    go (Failed r) ranges =
+    go : (c : Result Unit Refusal) → ranges_in file ≡ c → read_file file ≡ Err (overlong (ranges_in file))
+    go (Err r) ranges =
         (λ i. reading_of file (first (enough i ∷ ranges i ∷ fail_if (not (eqb (length file) (28 + 5 * n))) Short ∷ entries ∷ [])))
-        ∙ sym (ap (λ c. reading.Refused (overlong c)) ranges)
-    go Passed ranges =
+        ∙ sym (ap (λ c. Err (overlong c)) ranges)
+    go (Ok _) ranges =
         (λ i. reading_of file (first (enough i ∷ ranges i ∷ too_long (few_entries (sizes_in file) n ranges) i ∷ entries ∷ [])))
-        ∙ sym (ap (λ c. reading.Refused (overlong c)) ranges)
+        ∙ sym (ap (λ c. Err (overlong c)) ranges)
 
 overlong_line : (q : Queue) (file : List ℕ) → 20508 < length file → lines_of q file ≡ refusal_line (overlong (ranges_in file))
 overlong_line q file long = ap (lines_for q file) (overlong_read file long)

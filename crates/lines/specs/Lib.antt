@@ -5,9 +5,11 @@
 -- inputs that are too long              Input
 -- lines by example                      Examples
 -- lines read off a trace                FromTrace
+-- text put behind text                  Appends
 pub mod Types
 pub mod Text
 pub mod Lines
 pub mod Input
 pub mod Examples
 pub mod FromTrace
+pub mod Appends

@@ -1,12 +1,11 @@
 -- What is printed for a file, by the program of each queue. Renders "The program's lines" and, of request 4 in 02, what the last line of "rehearse" gains at its end. Programs of later requests print 01's lines as they stand, so that of FF-CL does (request 5).
-use Rattle.std.specs.Prelude.{cond, List, [], ◌∷◌, ◌++◌, ℕ, ◌+◌}
+use Rattle.std.specs.Prelude.{cond, List, [], ◌∷◌, ◌++◌, ℕ, ◌+◌, Result, Ok, Err}
 use Rattle.terms.specs.Outcome as outcome
 use Rattle.terms.specs.Refusal as refusal
 use Rattle.terms.specs.Sizes.{enough_margin, margin_in_use}
-use Rattle.schedule.specs.declared.reader.Reading.TheVariants as reading
 use Rattle.schedule.specs.Reader.{read_file}
 use Rattle.schedule.specs.Run.{outcomes_in_on, summary_in_on}
-use Rattle.lines.specs.Types.{Accepted, FfCl, FfThe, Outcome, Queue, Reading, Refusal, Sizes, Summary, Tally}
+use Rattle.lines.specs.Types.{FfCl, FfThe, Outcome, Queue, Refusal, Sizes, Summary, Tally}
 use Rattle.lines.specs.Text.{ascii, decimal, line}
 
 -- whether the margin in use is at least the needed one
@@ -57,9 +56,9 @@ abbrev pub run_lines : Queue → Sizes → List Outcome → Summary → List ℕ
 run_lines q s os t = sizes_line s ++ entry_lines 0 os ++ last_line_on q t
 
 -- all lines, by the reader's answer
-abbrev pub lines_for : Queue → List ℕ → Reading → List ℕ
-lines_for q file (Accepted s entries) = run_lines q s (outcomes_in_on q file) (summary_in_on q file)
-lines_for q file (reading.Refused r) = refusal_line r
+abbrev pub lines_for : Queue → List ℕ → Result (Sizes × ℕ) Refusal → List ℕ
+lines_for q file (Ok (s, entries)) = run_lines q s (outcomes_in_on q file) (summary_in_on q file)
+lines_for q file (Err r) = refusal_line r
 
 -- what the program of a queue prints for a file
 abbrev pub lines_of : Queue → List ℕ → List ℕ

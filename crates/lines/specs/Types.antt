@@ -3,8 +3,7 @@ pub use Rattle.terms.specs.declared.outcome.Outcome.{Outcome}
 pub use Rattle.terms.specs.declared.refusal.Refusal.{Refusal}
 pub use Rattle.terms.specs.declared.sizes.Sizes.{Sizes}
 pub use Rattle.terms.specs.declared.tally.Tally.{Tally}
-pub use Rattle.schedule.specs.declared.reader.Reading.{Reading}
-pub use Rattle.schedule.specs.declared.reader.Reading.TheVariants.{Accepted}
 pub use Rattle.schedule.specs.declared.runner.Queue.{Queue}
 pub use Rattle.schedule.specs.declared.runner.Queue.TheVariants.{FfThe, FfCl}
 pub use Rattle.schedule.specs.declared.runner.Summary.{Summary}
+pub use Rattle.lines.specs.declared.text.Text.{Text}

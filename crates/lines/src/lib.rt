@@ -4,11 +4,12 @@
 // each entry, and the totals, for FF-THE with how far memory lagged; or the one line of a refusal. It asks nothing of its caller, and what it answers is `lines_of`
 // (`specs/Lines.antt`), byte for byte. A program is left with reading and printing. Reading order:
 //
-// - `text`: numbers and other text put one behind the other;
+// - `text`: the text in memory, and numbers and other bytes put behind it;
 // - `lines`: one line of each sort, and all of them.
 #![tactic(auto)]
 
 mod lines;
 mod text;
 
-pub use lines::{TEXT_ROOM, Text, lines_of};
+pub use lines::lines_of;
+pub use text::{TEXT_ROOM, Text};

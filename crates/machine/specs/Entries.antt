@@ -2,7 +2,7 @@
 use Rattle.std.specs.Prelude.{cond, not, ℕ}
 use Rattle.stores.specs.Spacing.{take_begins, too_early}
 use Rattle.stores.specs.StoreBuffer.{drop_oldest, oldest, slots_after, tail_after}
-use Rattle.machine.specs.Types.{Client, Done, Machine, TheClient, One, Moved, Place, Early, ThiefCall, StealLock, WorkerCall, PutLoadHead, TakeStoreTail}
+use Rattle.machine.specs.Types.{Client, Done, Machine, TheClient, Some, Moved, Place, Early, ThiefCall, StealLock, WorkerCall, PutLoadHead, TakeStoreTail}
 use Rattle.machine.specs.Update.{with_memory, with_spacing, with_store, with_thief, with_worker}
 use Rattle.machine.specs.Worker.{worker_runs}
 use Rattle.machine.specs.Thief.{thief_runs}
@@ -35,7 +35,7 @@ worker_goes_on c m = done Moved (with_worker c m)
 
 -- a client store, which counts
 abbrev pub make_client_store : Machine → Done
-make_client_store m = unless_worker_runs m (needing (has_room m) m (done Moved (with_store (One TheClient Client) m)))
+make_client_store m = unless_worker_runs m (needing (has_room m) m (done Moved (with_store (Some (TheClient, Client)) m)))
 
 abbrev pub begin_put : ℕ → Machine → Done
 begin_put x m = unless_worker_runs m (worker_goes_on (PutLoadHead x) m)

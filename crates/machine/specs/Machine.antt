@@ -1,13 +1,14 @@
 -- The machine: what it is at first, what the parties load from it, what a step may need, how far memory lags, and what an operation hands back. Renders the first paragraph of "The machine", of
 -- "Demand 3's plain queue" what the fresh machine is, and of request 4, in 02, the number that is handed on.
 use Rattle.std.specs.Prelude.{Bool, cond, ℕ, ltb, eqb, get_or, replicate}
+pub use Rattle.stores.specs.Done.{handing}
 use Rattle.stores.specs.Index.{index_of}
 use Rattle.stores.specs.Load as load
 use Rattle.stores.specs.Lock.{is_nobody}
 use Rattle.stores.specs.Look.{hidden_if, look_at}
 use Rattle.stores.specs.Spacing.{no_take}
 use Rattle.stores.specs.StoreBuffer.{empty_buffer, newest_tail, pending, take_stores}
-use Rattle.machine.specs.Types.{Done, Nobody, Index, Load, NoSlot, SlotOf, Look, Machine, Outcome, Wait, Sizes, ThiefCall, WorkerCall}
+use Rattle.machine.specs.Types.{Done, Nobody, Index, Option, None, Some, Look, Machine, Outcome, Wait, Sizes, ThiefCall, WorkerCall}
 use Rattle.machine.specs.Thief.{idle_thief}
 use Rattle.machine.specs.InRange.{calls_in_range, in_range}
 
@@ -47,13 +48,13 @@ abbrev pub worker_load : Machine → Index → ℕ
 worker_load m i = load.worker_load m.sizes.slots m.slots m.buffer i
 
 -- what a step loads: 0 where it loads from no slot
-abbrev pub memory_loads : Machine → Load → ℕ
-memory_loads m NoSlot = 0
-memory_loads m (SlotOf i) = memory_load m i
+abbrev pub memory_loads : Machine → Option Index → ℕ
+memory_loads m None = 0
+memory_loads m (Some i) = memory_load m i
 
-abbrev pub worker_loads : Machine → Load → ℕ
-worker_loads m NoSlot = 0
-worker_loads m (SlotOf i) = worker_load m i
+abbrev pub worker_loads : Machine → Option Index → ℕ
+worker_loads m None = 0
+worker_loads m (Some i) = worker_load m i
 
 -- the call of the thief with this number
 abbrev pub thief_call : Machine → ℕ → ThiefCall
@@ -86,10 +87,6 @@ abbrev pub look : Machine → Look
 look m = look_at m.sizes m.head m.tail m.buffer m.spacing (calls_in_range m)
 
 -- ── What an operation hands back ────────────────────────────────────────────────────────────────────────────────────────────
-
--- with any number; `done` has the right one
-abbrev pub handing : Outcome → ℕ → Machine → Done
-handing o n m = record { machine = m; outcome = o; hidden = n }
 
 -- the machine, the outcome, and the number for that machine
 abbrev pub done : Outcome → Machine → Done

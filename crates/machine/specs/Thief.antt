@@ -3,7 +3,7 @@ use Rattle.std.specs.Prelude.{◌≡◌, Bool, true, false, cond, ℕ, pos, ◌-
 use Rattle.std.specs.Int.Signed.{lt_z}
 use Rattle.stores.specs.Index.{index_in_range, next, slot_index_in_range}
 use Rattle.stores.specs.Lock.{is_nobody}
-use Rattle.machine.specs.Types.{Index, Load, NoSlot, SlotOf, Nobody, TheThief, Outcome, Moved, Place, Wait, Task, Abort, Thief, ThiefCall, StealLock, StealLoadHead, StealRaiseHead, StealLoadTail, StealLoadSlot, StealUnlockTask, StealRestoreHead, StealUnlockAbort, ThiefView, ThiefMove}
+use Rattle.machine.specs.Types.{Index, Option, None, Some, Nobody, TheThief, Outcome, Moved, Place, Wait, Task, Abort, Thief, ThiefCall, StealLock, StealLoadHead, StealRaiseHead, StealLoadTail, StealLoadSlot, StealUnlockTask, StealRestoreHead, StealUnlockAbort, ThiefView, ThiefMove}
 
 abbrev pub idle_thief : Thief
 idle_thief = record { call = ThiefCall.Idle }
@@ -32,16 +32,16 @@ thief_runs (StealRestoreHead h) = true
 thief_runs StealUnlockAbort = true
 
 -- from which slot the next step loads
-abbrev pub loads : ThiefCall → Load
-loads ThiefCall.Idle = NoSlot
-loads StealLock = NoSlot
-loads StealLoadHead = NoSlot
-loads (StealRaiseHead h) = NoSlot
-loads (StealLoadTail h) = NoSlot
-loads (StealLoadSlot h) = SlotOf h
-loads (StealUnlockTask x) = NoSlot
-loads (StealRestoreHead h) = NoSlot
-loads StealUnlockAbort = NoSlot
+abbrev pub loads : ThiefCall → Option Index
+loads ThiefCall.Idle = None
+loads StealLock = None
+loads StealLoadHead = None
+loads (StealRaiseHead h) = None
+loads (StealLoadTail h) = None
+loads (StealLoadSlot h) = Some h
+loads (StealUnlockTask x) = None
+loads (StealRestoreHead h) = None
+loads StealUnlockAbort = None
 
 -- what a thief's steps need of what it sees, to be computed in 64 bits
 pub record ThiefViewInRange (v : ThiefView) : Type 0 where

@@ -2,7 +2,7 @@
 use Rattle.std.specs.Prelude.{List, ℕ, set}
 use Rattle.stores.specs.Spacing.{counted_in}
 use Rattle.stores.specs.StoreBuffer.{push, pushed_in}
-use Rattle.machine.specs.Types.{Holder, Index, Machine, Push, Spacing, Store, StoreBuffer, ThiefCall, WorkerCall}
+use Rattle.machine.specs.Types.{Holder, Index, Machine, Option, Maker, StoreKind, Spacing, Store, StoreBuffer, ThiefCall, WorkerCall}
 
 abbrev pub with_head : Index → Machine → Machine
 with_head h m = record { sizes = m.sizes; slots = m.slots; head = h; tail = m.tail; lock = m.lock; buffer = m.buffer; spacing = m.spacing; worker = m.worker; thieves = m.thieves }
@@ -28,7 +28,7 @@ abbrev pub with_thief : ℕ → ThiefCall → Machine → Machine
 with_thief i c m = record { sizes = m.sizes; slots = m.slots; head = m.head; tail = m.tail; lock = m.lock; buffer = m.buffer; spacing = m.spacing; worker = m.worker; thieves = set m.thieves i (record { call = c }) }
 
 -- The store that an entry makes, if it makes one, is pending. Of the spacing rule, as request 1 widens it: if it is one that counts, it does so as soon as it is pending.
-abbrev pub with_store : Push → Machine → Machine
+abbrev pub with_store : Option (Maker × StoreKind) → Machine → Machine
 with_store p m = with_spacing (counted_in p m.spacing) (with_buffer (pushed_in p m.buffer) m)
 
 -- a store is pending, and nothing else changes

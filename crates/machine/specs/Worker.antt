@@ -5,7 +5,7 @@ use Rattle.std.specs.Prelude.{◌≡◌, Bool, true, false, cond, ◌&&◌, ℕ,
 use Rattle.std.specs.Int.Signed.{le_z}
 use Rattle.stores.specs.Index.{eq_z, index_in_range, next, previous, slot_index_in_range}
 use Rattle.stores.specs.Lock.{is_nobody}
-use Rattle.machine.specs.Types.{Index, Load, NoSlot, SlotOf, Nobody, TheWorker, Outcome, Moved, Place, Wait, Stored, Task, Empty, Full, End, Push, Nothing, One, APut, ATake, Holder, Tail, Slot, WorkerCall, PutLoadHead, PutStoreSlot, PutStoreTail, TakeStoreTail, TakeLoadHead, TakeLoadSlot, TakeLock, TakeReloadHead, TakeRestoreTail, TakeUnlockEmpty, TakeUnlockTask, TakeLoadLastSlot, WorkerView, WorkerMove}
+use Rattle.machine.specs.Types.{Index, Option, None, Some, Nobody, TheWorker, Outcome, Moved, Place, Wait, Stored, Task, Empty, Full, End, Maker, StoreKind, APut, ATake, Holder, Tail, Slot, WorkerCall, PutLoadHead, PutStoreSlot, PutStoreTail, TakeStoreTail, TakeLoadHead, TakeLoadSlot, TakeLock, TakeReloadHead, TakeRestoreTail, TakeUnlockEmpty, TakeUnlockTask, TakeLoadLastSlot, WorkerView, WorkerMove}
 
 -- ── Calls ───────────────────────────────────────────────────────────────────────────────────────────────────────────────────
 
@@ -42,20 +42,20 @@ worker_runs (TakeUnlockTask t) = true
 worker_runs (TakeLoadLastSlot t) = true
 
 -- from which slot the next step loads
-abbrev pub loads : WorkerCall → Load
-loads WorkerCall.Idle = NoSlot
-loads (PutLoadHead x) = NoSlot
-loads (PutStoreSlot x) = NoSlot
-loads PutStoreTail = NoSlot
-loads TakeStoreTail = NoSlot
-loads (TakeLoadHead t) = NoSlot
-loads (TakeLoadSlot t) = SlotOf t
-loads (TakeLock t) = NoSlot
-loads (TakeReloadHead t) = NoSlot
-loads (TakeRestoreTail t) = NoSlot
-loads TakeUnlockEmpty = NoSlot
-loads (TakeUnlockTask t) = NoSlot
-loads (TakeLoadLastSlot t) = SlotOf t
+abbrev pub loads : WorkerCall → Option Index
+loads WorkerCall.Idle = None
+loads (PutLoadHead x) = None
+loads (PutStoreSlot x) = None
+loads PutStoreTail = None
+loads TakeStoreTail = None
+loads (TakeLoadHead t) = None
+loads (TakeLoadSlot t) = Some t
+loads (TakeLock t) = None
+loads (TakeReloadHead t) = None
+loads (TakeRestoreTail t) = None
+loads TakeUnlockEmpty = None
+loads (TakeUnlockTask t) = None
+loads (TakeLoadLastSlot t) = Some t
 
 -- what the worker's steps need of what it sees, to be computed in 64 bits
 pub record WorkerViewInRange (v : WorkerView) : Type 0 where
@@ -68,27 +68,27 @@ pub record WorkerViewInRange (v : WorkerView) : Type 0 where
 
 -- the entry is refused: all stays as it is
 abbrev pub stays : Outcome → WorkerView → WorkerMove
-stays o v = record { push = Nothing; lock = v.lock; call = v.call; outcome = o }
+stays o v = record { push = None; lock = v.lock; call = v.call; outcome = o }
 
 -- the call goes on: this step is next
 abbrev pub goes_on : WorkerCall → WorkerView → WorkerMove
-goes_on c v = record { push = Nothing; lock = v.lock; call = c; outcome = Moved }
+goes_on c v = record { push = None; lock = v.lock; call = c; outcome = Moved }
 
 -- the call ends with this answer
 abbrev pub answers : Outcome → WorkerView → WorkerMove
-answers o v = record { push = Nothing; lock = v.lock; call = WorkerCall.Idle; outcome = o }
+answers o v = record { push = None; lock = v.lock; call = WorkerCall.Idle; outcome = o }
 
 -- 7 WAIT where the step's need is not met
 abbrev pub needing : Bool → WorkerView → WorkerMove → WorkerMove
 needing met v d = cond met d (stays Wait v)
 
 -- a store, which needs room
-abbrev pub storing : Push → Outcome → WorkerCall → WorkerView → WorkerMove
+abbrev pub storing : Option (Maker × StoreKind) → Outcome → WorkerCall → WorkerView → WorkerMove
 storing p o c v = needing v.room v (record { push = p; lock = v.lock; call = c; outcome = o })
 
 -- the lock gets this holder, where what that needs is met
 abbrev pub locking : Bool → Holder → Outcome → WorkerCall → WorkerView → WorkerMove
-locking met h o c v = needing met v (record { push = Nothing; lock = record { holder = h }; call = c; outcome = o })
+locking met h o c v = needing met v (record { push = None; lock = record { holder = h }; call = c; outcome = o })
 
 -- ── Put ─────────────────────────────────────────────────────────────────────────────────────────────────────────────────────
 
@@ -106,17 +106,17 @@ put_load_head x v = cond (at_end v) (answers End v) (cond (is_full v) (answers F
 
 -- step 2: store the number in the slot that the tail points to
 abbrev pub put_store_slot : ℕ → WorkerView → WorkerMove
-put_store_slot x v = storing (One APut (Slot x v.tail)) Moved PutStoreTail v
+put_store_slot x v = storing (Some (APut, Slot x v.tail)) Moved PutStoreTail v
 
 -- step 3: store the tail, one higher, and answer
 abbrev pub put_store_tail : WorkerView → WorkerMove
-put_store_tail v = storing (One APut (Tail (next v.tail))) Stored WorkerCall.Idle v
+put_store_tail v = storing (Some (APut, Tail (next v.tail))) Stored WorkerCall.Idle v
 
 -- ── Take ────────────────────────────────────────────────────────────────────────────────────────────────────────────────────
 
 -- step 1: store the tail, one lower; t is that index from here on
 abbrev pub take_store_tail : WorkerView → WorkerMove
-take_store_tail v = storing (One ATake (Tail (previous v.tail))) Moved (TakeLoadHead (previous v.tail)) v
+take_store_tail v = storing (Some (ATake, Tail (previous v.tail))) Moved (TakeLoadHead (previous v.tail)) v
 
 -- t ≥ head
 abbrev pub at_or_above_head : Index → WorkerView → Bool
@@ -144,7 +144,7 @@ take_reload_head t v = cond (head_is_past t v) (goes_on (TakeRestoreTail t) v) (
 
 -- step 5 where head is above t: put the tail back
 abbrev pub take_restore_tail : Index → WorkerView → WorkerMove
-take_restore_tail t v = storing (One ATake (Tail (next t))) Moved TakeUnlockEmpty v
+take_restore_tail t v = storing (Some (ATake, Tail (next t))) Moved TakeUnlockEmpty v
 
 -- step 6 where head is above t: free the lock and answer
 abbrev pub take_unlock_empty : WorkerView → WorkerMove

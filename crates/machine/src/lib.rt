@@ -23,8 +23,8 @@
 // - `machine`: memory, lock, store buffer and calls together, at first, and what the parties load;
 // - `look`: what an operation has to know first (`Look`, of `stores`), with the calls: whether all is in range, the
 //   worker's tail, and how far memory lags;
-// - `obey`: what each party sees, how a move is performed, and the operations: `obey` for any entry, and one for each
-//   kind, which is `obey` of that kind.
+// - `obey`: what each party sees, how a move is performed, and `obey`, which obeys any entry. The operation of each kind of
+//   entry is `obey` of that kind (`Operations`, of `stores`).
 //
 // An operation hands back the machine, the entry's outcome, and how far memory lags behind the worker there: how many
 // stores are pending by which takes have lowered the tail.

@@ -3,9 +3,9 @@ ghost use Rattle.machine.specs.InRange.{in_range};
 ghost use Rattle.machine.specs.Machine.{look};
 
 use crate::machine::Machine;
-use crate::thief::{Thief, thieves_in_range};
+use crate::thief::Thief;
 use crate::worker::WorkerCall;
-use stores::Look;
+use stores::{Look, all_in_range};
 
 impl Machine {
     // One look at the machine. The worker's call and the thieves are handed in, as copies that the caller goes on with.
@@ -13,23 +13,21 @@ impl Machine {
         requires { (call ≡ self.worker.call) × (thieves ≡ self.thieves) }
         ensures { result ≡ look self }
     {
-        let sizes = self.sizes;
-        let head = self.head;
-        let tail = self.tail;
-        let buffer = self.buffer;
-        let spacing = self.spacing;
-        let calls = call.in_range() & thieves_in_range(thieves);
-        Look::at(sizes, head, tail, buffer, spacing, calls)
+        let calls = call.in_range() & all_in_range(&thieves);
+        Look::at(
+            self.sizes,
+            self.head,
+            self.tail,
+            self.buffer,
+            self.spacing,
+            calls,
+        )
     }
 
     // Whether sizes, number of pending stores, spacing count and every index are in range.
     pub fn in_range(self) -> bool
         ensures { result ≡ in_range self }
     {
-        let worker = self.worker;
-        let call = worker.call;
-        let thieves = self.thieves;
-        let seen = self.look(call, thieves);
-        seen.ranged
+        self.look(self.worker.call, self.thieves).ranged
     }
 }

@@ -3,38 +3,15 @@ ghost use Rattle.stores.specs.StoreBuffer.{pushed_or_same, slots_after};
 ghost use Rattle.machine.specs.Machine.{handing, thief_call, worker_tail};
 ghost use Rattle.machine.specs.Obey.{obey};
 ghost use Rattle.machine.specs.Perform.{perform_thief, thief_view, worker_view};
-ghost use Rattle.machine.specs.Types.{BeginPut, BeginSteal, BeginTake, ClientStore, Drain, Moved, ThiefStep, WorkerStep};
+ghost use Rattle.machine.specs.Types.{Moved};
 ghost use Rattle.machine.specs.Update.{with_buffer, with_lock, with_memory, with_spacing, with_worker};
 
 use crate::machine::{Done, Machine, Worker};
 use crate::moves::{thief_entry, worker_entry};
 use crate::thief::{Thief, ThiefCall, ThiefMove, ThiefView};
 use crate::worker::{WorkerCall, WorkerMove, WorkerView};
-use stores::{Index, Push, Spacing, StoreBuffer, StoreKind};
+use stores::{InRange, Index, Operations, Spacing, StoreBuffer, StoreKind};
 use terms::{Entry, Outcome};
-
-impl WorkerCall {
-    // The same, case by case: an enum that is copied whole takes its padding along, through every step of an entry (`docs/ARCHITECTURE.md`, "Where a run's time goes").
-    pub(crate) fn copied(self) -> WorkerCall
-        ensures { result ≡ self }
-    {
-        match self {
-            WorkerCall::Idle => WorkerCall::Idle,
-            WorkerCall::PutLoadHead(task) => WorkerCall::PutLoadHead(task),
-            WorkerCall::PutStoreSlot(task) => WorkerCall::PutStoreSlot(task),
-            WorkerCall::PutStoreTail => WorkerCall::PutStoreTail,
-            WorkerCall::TakeStoreTail => WorkerCall::TakeStoreTail,
-            WorkerCall::TakeLoadHead(t) => WorkerCall::TakeLoadHead(t),
-            WorkerCall::TakeLoadSlot(t) => WorkerCall::TakeLoadSlot(t),
-            WorkerCall::TakeLock(t) => WorkerCall::TakeLock(t),
-            WorkerCall::TakeReloadHead(t) => WorkerCall::TakeReloadHead(t),
-            WorkerCall::TakeRestoreTail(t) => WorkerCall::TakeRestoreTail(t),
-            WorkerCall::TakeUnlockEmpty => WorkerCall::TakeUnlockEmpty,
-            WorkerCall::TakeUnlockTask(t) => WorkerCall::TakeUnlockTask(t),
-            WorkerCall::TakeLoadLastSlot(t) => WorkerCall::TakeLoadLastSlot(t),
-        }
-    }
-}
 
 // What a party sees, and one way out of `obey` for each way in which an entry changes the machine.
 impl Machine {
@@ -43,14 +20,12 @@ impl Machine {
         requires { (call ≡ self.worker.call) × (tail ≡ worker_tail self) }
         ensures { result ≡ worker_view self self.worker.call }
     {
-        let head = self.head;
-        let lock = self.lock;
         WorkerView {
-            call: call,
+            call,
             slots: self.sizes.slots,
-            tail: tail,
-            head: head,
-            lock: lock,
+            tail,
+            head: self.head,
+            lock: self.lock,
             room: self.buffer.count < self.sizes.buffer as usize,
             drained: self.buffer.count == 0,
             loaded: self.worker_loads(call.loads()),
@@ -62,16 +37,13 @@ impl Machine {
         requires { call ≡ thief_call self thief }
         ensures { result ≡ thief_view self thief (thief_call self thief) }
     {
-        let head = self.head;
-        let lock = self.lock;
-        let sizes = self.sizes;
         ThiefView {
-            call: call,
+            call,
             me: thief,
-            head: head,
+            head: self.head,
             tail: self.thief_tail(),
-            lock: lock,
-            margin: sizes.margin_in_use(),
+            lock: self.lock,
+            margin: self.sizes.margin_in_use(),
             loaded: self.memory_loads(call.loads()),
         }
     }
@@ -80,14 +52,12 @@ impl Machine {
     fn drained_to_slot(mut self, kind: StoreKind, left: StoreBuffer, hidden: u32) -> Done
         ensures { result ≡ handing Moved hidden (with_memory (slots_after self.sizes.slots self.slots kind) self.tail left self) }
     {
-        let memory = self.slots;
-        let slots = kind.slots_after(self.sizes.slots, memory);
-        self.slots = slots;
+        self.slots = kind.slots_after(self.sizes.slots, self.slots);
         self.buffer = left;
         Done {
             machine: self,
             outcome: Outcome::Moved,
-            hidden: hidden,
+            hidden,
         }
     }
 
@@ -100,7 +70,7 @@ impl Machine {
         Done {
             machine: self,
             outcome: Outcome::Moved,
-            hidden: hidden,
+            hidden,
         }
     }
 
@@ -108,20 +78,14 @@ impl Machine {
     fn worker_moved_storing(mut self, step: WorkerMove, spacing: Spacing, hidden: u32) -> Done
         ensures { result ≡ handing step.outcome hidden (with_worker step.call (with_lock step.lock.holder (with_spacing spacing (with_buffer (pushed_or_same step.push self.buffer) self)))) }
     {
-        let buffer = self.buffer;
-        let push = step.push;
-        let lock = step.lock;
-        let call = step.call;
-        let outcome = step.outcome;
-        let worker = Worker { call: call };
-        self.buffer = buffer.pushed(push);
+        self.buffer = self.buffer.pushed(step.push);
         self.spacing = spacing;
-        self.lock = lock;
-        self.worker = worker;
+        self.lock = step.lock;
+        self.worker = Worker { call: step.call };
         Done {
             machine: self,
-            outcome: outcome,
-            hidden: hidden,
+            outcome: step.outcome,
+            hidden,
         }
     }
 
@@ -129,17 +93,13 @@ impl Machine {
     fn worker_moved(mut self, step: WorkerMove, spacing: Spacing, hidden: u32) -> Done
         ensures { result ≡ handing step.outcome hidden (with_worker step.call (with_lock step.lock.holder (with_spacing spacing self))) }
     {
-        let lock = step.lock;
-        let call = step.call;
-        let outcome = step.outcome;
-        let worker = Worker { call: call };
         self.spacing = spacing;
-        self.lock = lock;
-        self.worker = worker;
+        self.lock = step.lock;
+        self.worker = Worker { call: step.call };
         Done {
             machine: self,
-            outcome: outcome,
-            hidden: hidden,
+            outcome: step.outcome,
+            hidden,
         }
     }
 
@@ -148,38 +108,30 @@ impl Machine {
         requires { thief < 8 }
         ensures { result ≡ handing step.outcome hidden (perform_thief thief self step).machine }
     {
-        let head = step.head;
-        let lock = step.lock;
-        let call = step.call;
-        let outcome = step.outcome;
-        let mut thieves = self.thieves;
-        thieves[thief as usize] = Thief { call: call };
-        self.head = head;
-        self.lock = lock;
-        self.thieves = thieves;
+        self.head = step.head;
+        self.lock = step.lock;
+        self.thieves[thief as usize] = Thief { call: step.call };
         Done {
             machine: self,
-            outcome: outcome,
-            hidden: hidden,
+            outcome: step.outcome,
+            hidden,
         }
     }
 }
 
-impl Machine {
+impl Operations for Machine {
+    ghost obeyed = { obey };
+
     // An entry is obeyed, whichever it is. All entries stand in one function, and each way out of it hands the machine to one that changes it in one straight line: so the compiler copies
     // only what is changed (`docs/ARCHITECTURE.md`, "Where a run's time goes").
-    pub fn obey(mut self, entry: Entry) -> Done
-        ensures { result ≡ obey self entry }
-    {
+    fn obey(mut self, entry: Entry) -> Done {
         let sizes = self.sizes;
-        let worker = self.worker;
-        let held = worker.call;
-        let call = held.copied();
+        let call = self.worker.call;
         let thieves = self.thieves;
         let seen = self.look(call, thieves);
         let thief = entry.thief();
         if !(seen.ranged & (thief < sizes.thieves)) {
-            return self.refused(Outcome::Wait, seen.hidden);
+            return Done::refused(self, Outcome::Wait, seen.hidden);
         }
         match entry {
             // The oldest pending store reaches memory.
@@ -187,11 +139,10 @@ impl Machine {
                 let buffer = self.buffer;
                 let tail = self.tail;
                 if buffer.count == 0 {
-                    return self.refused(Outcome::Wait, seen.hidden);
+                    return Done::refused(self, Outcome::Wait, seen.hidden);
                 }
                 let dropped = buffer.drop_oldest();
-                let oldest = dropped.oldest;
-                let kind = oldest.kind;
+                let kind = dropped.oldest.kind;
                 let left = dropped.left;
                 let hidden = seen.after_drain(tail, kind);
                 if let StoreKind::Slot(_, _) = kind {
@@ -207,26 +158,25 @@ impl Machine {
                 let step = worker_entry(view, entry, spacing.too_early(sizes.spacing));
                 let outcome = step.outcome;
                 if outcome.is_refusal() {
-                    return self.refused(outcome, seen.hidden);
+                    return Done::refused(self, outcome, seen.hidden);
                 }
                 let made = step.push;
                 let next = step.call;
                 let counted = spacing.after(entry, made);
                 let hidden = seen.after_store(made, counted, next.in_range());
-                if let Push::One(_, _) = made {
+                if made.is_some() {
                     return self.worker_moved_storing(step, counted, hidden);
                 }
                 return self.worker_moved(step, counted, hidden);
             }
             // The thief's entry is a move of that thief's.
             Entry::BeginSteal(_) | Entry::ThiefStep(_) => {
-                let found = thieves[thief as usize];
-                let mine = found.call;
+                let mine = thieves[thief as usize].call;
                 let view = self.thief_view(thief, mine);
                 let step = thief_entry(view, entry);
                 let outcome = step.outcome;
                 if outcome.is_refusal() {
-                    return self.refused(outcome, seen.hidden);
+                    return Done::refused(self, outcome, seen.hidden);
                 }
                 let head = step.head;
                 let next = step.call;
@@ -235,54 +185,5 @@ impl Machine {
                 return self.thief_moved(thief, step, hidden);
             }
         }
-    }
-
-    // The oldest pending store reaches memory.
-    pub fn drain(mut self) -> Done
-        ensures { result ≡ obey self Drain }
-    {
-        self.obey(Entry::Drain)
-    }
-
-    // The worker makes a store that has nothing to do with the queue.
-    pub fn client_store(mut self) -> Done
-        ensures { result ≡ obey self ClientStore }
-    {
-        self.obey(Entry::ClientStore)
-    }
-
-    // The worker begins to put the task with this number.
-    pub fn begin_put(mut self, task: u32) -> Done
-        ensures { result ≡ obey self (BeginPut task) }
-    {
-        self.obey(Entry::BeginPut(task))
-    }
-
-    // The worker begins to take a task, if enough stores have spaced it from the take before.
-    pub fn begin_take(mut self) -> Done
-        ensures { result ≡ obey self BeginTake }
-    {
-        self.obey(Entry::BeginTake)
-    }
-
-    // The worker's call makes its next step.
-    pub fn worker_step(mut self) -> Done
-        ensures { result ≡ obey self WorkerStep }
-    {
-        self.obey(Entry::WorkerStep)
-    }
-
-    // The thief with this number, counted from 0, begins to steal.
-    pub fn begin_steal(mut self, thief: u32) -> Done
-        ensures { result ≡ obey self (BeginSteal thief) }
-    {
-        self.obey(Entry::BeginSteal(thief))
-    }
-
-    // The call of the thief with this number makes its next step.
-    pub fn thief_step(mut self, thief: u32) -> Done
-        ensures { result ≡ obey self (ThiefStep thief) }
-    {
-        self.obey(Entry::ThiefStep(thief))
     }
 }

@@ -1,5 +1,4 @@
 ghost use Rattle.std.specs.Prelude.{◌≡◌, true};
-ghost use Rattle.terms.specs.Lists.{all};
 ghost use Rattle.stores.specs.Index.{index_in_range};
 ghost use Rattle.machine.specs.Thief.{
   ThiefViewInRange,
@@ -14,7 +13,7 @@ ghost use Rattle.machine.specs.Thief.{
   thief_move,
 };
 
-use stores::{Holder, Index, Load, Lock};
+use stores::{Holder, InRange, Index, Lock};
 use terms::Outcome;
 
 // A thief's call in progress: one case for each step that is next, with what that step and later ones use.
@@ -73,43 +72,28 @@ pub struct ThiefMove {
     pub outcome: Outcome,
 }
 
-impl Thief {
+impl InRange for Thief {
+    ghost ranged = { λ thief. thief_in_range thief.call };
+
     // Whether every index that the call holds is in range.
-    pub(crate) fn in_range(self) -> bool
-        ensures { result ≡ thief_in_range self.call }
-    {
-        let call = self.call;
-        match call {
+    fn in_range(self) -> bool {
+        match self.call {
             ThiefCall::Idle
             | ThiefCall::StealLock
             | ThiefCall::StealLoadHead
             | ThiefCall::StealUnlockTask(_)
             | ThiefCall::StealUnlockAbort => true,
-            ThiefCall::StealRaiseHead(h) => h.in_range(),
-            ThiefCall::StealLoadTail(h) => h.in_range(),
+            ThiefCall::StealRaiseHead(h)
+            | ThiefCall::StealLoadTail(h)
+            | ThiefCall::StealRestoreHead(h) => h.in_range(),
             ThiefCall::StealLoadSlot(h) => h.slot_in_range(),
-            ThiefCall::StealRestoreHead(h) => h.in_range(),
         }
     }
 }
 
-// Whether every thief's call is in range.
-pub(crate) fn thieves_in_range(thieves: [Thief; 8]) -> bool
-    ensures { result ≡ all (λ t. thief_in_range t.call) thieves }
-{
-    let mut ok = true;
-    let mut i: usize = 0;
-    while i < 8 {
-        let thief = thieves[i];
-        ok = ok & thief.in_range();
-        i += 1;
-    }
-    ok
-}
-
 impl ThiefCall {
     // From which slot the next step loads.
-    pub(crate) fn loads(self) -> Load
+    pub(crate) fn loads(self) -> Option<Index>
         ensures { result ≡ loads self }
     {
         match self {
@@ -120,8 +104,8 @@ impl ThiefCall {
             | ThiefCall::StealLoadTail(_)
             | ThiefCall::StealUnlockTask(_)
             | ThiefCall::StealRestoreHead(_)
-            | ThiefCall::StealUnlockAbort => Load::NoSlot,
-            ThiefCall::StealLoadSlot(h) => Load::SlotOf(h),
+            | ThiefCall::StealUnlockAbort => None,
+            ThiefCall::StealLoadSlot(h) => Some(h),
         }
     }
 }
@@ -131,14 +115,11 @@ impl ThiefView {
     pub(crate) fn stays(self, outcome: Outcome) -> ThiefMove
         ensures { result ≡ stays outcome self }
     {
-        let head = self.head;
-        let lock = self.lock;
-        let call = self.call;
         ThiefMove {
-            head: head,
-            lock: lock,
-            call: call,
-            outcome: outcome,
+            head: self.head,
+            lock: self.lock,
+            call: self.call,
+            outcome,
         }
     }
 
@@ -146,11 +127,10 @@ impl ThiefView {
     fn heads(self, head: Index, call: ThiefCall) -> ThiefMove
         ensures { result ≡ heading head call self }
     {
-        let lock = self.lock;
         ThiefMove {
-            head: head,
-            lock: lock,
-            call: call,
+            head,
+            lock: self.lock,
+            call,
             outcome: Outcome::Moved,
         }
     }
@@ -159,19 +139,16 @@ impl ThiefView {
     pub(crate) fn goes_on(self, call: ThiefCall) -> ThiefMove
         ensures { result ≡ goes_on call self }
     {
-        let head = self.head;
-        self.heads(head, call)
+        self.heads(self.head, call)
     }
 
     // Steal, step 1: lock.
     fn steal_lock(self) -> ThiefMove
         ensures { result ≡ steal_lock self }
     {
-        let lock = self.lock;
-        if lock.is_free() {
-            let head = self.head;
+        if self.lock.is_free() {
             return ThiefMove {
-                head: head,
+                head: self.head,
                 lock: Lock {
                     holder: Holder::TheThief(self.me),
                 },
@@ -187,8 +164,7 @@ impl ThiefView {
         requires { (index_in_range h ≡ true) × (index_in_range self.tail ≡ true) }
         ensures { result ≡ steal_load_tail h self }
     {
-        let tail = self.tail;
-        if h.is_below_by_more(tail, self.margin) {
+        if h.is_below_by_more(self.tail, self.margin) {
             return self.goes_on(ThiefCall::StealLoadSlot(h));
         }
         self.goes_on(ThiefCall::StealRestoreHead(h))
@@ -198,14 +174,13 @@ impl ThiefView {
     fn steal_unlock(self, outcome: Outcome) -> ThiefMove
         ensures { result ≡ steal_unlock outcome self }
     {
-        let head = self.head;
         ThiefMove {
-            head: head,
+            head: self.head,
             lock: Lock {
                 holder: Holder::Nobody,
             },
             call: ThiefCall::Idle,
-            outcome: outcome,
+            outcome,
         }
     }
 }
@@ -215,24 +190,15 @@ pub(crate) fn thief_move(view: ThiefView) -> ThiefMove
     requires { ThiefViewInRange view }
     ensures { result ≡ thief_move view.call view }
 {
-    let call = view.call;
-    match call {
-        ThiefCall::Idle => return view.stays(Outcome::Place),
-        ThiefCall::StealLock => return view.steal_lock(),
-        ThiefCall::StealLoadHead => {
-            let head = view.head;
-            return view.goes_on(ThiefCall::StealRaiseHead(head));
-        }
-        ThiefCall::StealRaiseHead(h) => {
-            let above = h.next();
-            return view.heads(above, ThiefCall::StealLoadTail(h));
-        }
-        ThiefCall::StealLoadTail(h) => return view.steal_load_tail(h),
-        ThiefCall::StealLoadSlot(_) => {
-            return view.goes_on(ThiefCall::StealUnlockTask(view.loaded));
-        }
-        ThiefCall::StealUnlockTask(task) => return view.steal_unlock(Outcome::Task(task)),
-        ThiefCall::StealRestoreHead(h) => return view.heads(h, ThiefCall::StealUnlockAbort),
-        ThiefCall::StealUnlockAbort => return view.steal_unlock(Outcome::Abort),
+    match view.call {
+        ThiefCall::Idle => view.stays(Outcome::Place),
+        ThiefCall::StealLock => view.steal_lock(),
+        ThiefCall::StealLoadHead => view.goes_on(ThiefCall::StealRaiseHead(view.head)),
+        ThiefCall::StealRaiseHead(h) => view.heads(h.next(), ThiefCall::StealLoadTail(h)),
+        ThiefCall::StealLoadTail(h) => view.steal_load_tail(h),
+        ThiefCall::StealLoadSlot(_) => view.goes_on(ThiefCall::StealUnlockTask(view.loaded)),
+        ThiefCall::StealUnlockTask(task) => view.steal_unlock(Outcome::Task(task)),
+        ThiefCall::StealRestoreHead(h) => view.heads(h, ThiefCall::StealUnlockAbort),
+        ThiefCall::StealUnlockAbort => view.steal_unlock(Outcome::Abort),
     }
 }

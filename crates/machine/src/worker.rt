@@ -25,7 +25,7 @@ ghost use Rattle.machine.specs.Worker.{
   worker_runs,
 };
 
-use stores::{Holder, Index, Load, Lock, Maker, Push, StoreKind};
+use stores::{Holder, Index, Lock, Maker, StoreKind};
 use terms::Outcome;
 
 // The worker's call in progress: one case for each step that is next, with what that step and later ones use.
@@ -59,7 +59,7 @@ pub enum WorkerCall {
     TakeLoadLastSlot(Index),
 }
 
-// What the worker sees at an entry of its own.
+// What the worker sees at an entry of its own. That it is in range is a `requires` of its steps and no ghost field: definitions make a view of any machine, in range or not.
 #[derive(Clone, Copy)]
 pub struct WorkerView {
     // Its call in progress.
@@ -81,7 +81,7 @@ pub struct WorkerView {
 // What the entry does: the store that it makes, the lock and the call after it, and its outcome.
 #[derive(Clone, Copy)]
 pub struct WorkerMove {
-    pub push: Push,
+    pub push: Option<(Maker, StoreKind)>,
     pub lock: Lock,
     pub call: WorkerCall,
     pub outcome: Outcome,
@@ -99,13 +99,13 @@ impl WorkerCall {
             | WorkerCall::PutStoreTail
             | WorkerCall::TakeStoreTail
             | WorkerCall::TakeUnlockEmpty => true,
-            WorkerCall::TakeLoadHead(t) => t.in_range(),
-            WorkerCall::TakeLoadSlot(t) => t.slot_in_range(),
-            WorkerCall::TakeLock(t) => t.in_range(),
-            WorkerCall::TakeReloadHead(t) => t.in_range(),
-            WorkerCall::TakeRestoreTail(t) => t.in_range(),
-            WorkerCall::TakeUnlockTask(t) => t.slot_in_range(),
-            WorkerCall::TakeLoadLastSlot(t) => t.slot_in_range(),
+            WorkerCall::TakeLoadHead(t)
+            | WorkerCall::TakeLock(t)
+            | WorkerCall::TakeReloadHead(t)
+            | WorkerCall::TakeRestoreTail(t) => t.in_range(),
+            WorkerCall::TakeLoadSlot(t)
+            | WorkerCall::TakeUnlockTask(t)
+            | WorkerCall::TakeLoadLastSlot(t) => t.slot_in_range(),
         }
     }
 
@@ -113,15 +113,11 @@ impl WorkerCall {
     pub(crate) fn runs(self) -> bool
         ensures { result ≡ worker_runs self }
     {
-        if let WorkerCall::Idle = self {
-            false
-        } else {
-            true
-        }
+        !matches!(self, WorkerCall::Idle)
     }
 
     // From which slot the next step loads.
-    pub(crate) fn loads(self) -> Load
+    pub(crate) fn loads(self) -> Option<Index>
         ensures { result ≡ loads self }
     {
         match self {
@@ -135,9 +131,8 @@ impl WorkerCall {
             | WorkerCall::TakeReloadHead(_)
             | WorkerCall::TakeRestoreTail(_)
             | WorkerCall::TakeUnlockEmpty
-            | WorkerCall::TakeUnlockTask(_) => Load::NoSlot,
-            WorkerCall::TakeLoadSlot(t) => Load::SlotOf(t),
-            WorkerCall::TakeLoadLastSlot(t) => Load::SlotOf(t),
+            | WorkerCall::TakeUnlockTask(_) => None,
+            WorkerCall::TakeLoadSlot(t) | WorkerCall::TakeLoadLastSlot(t) => Some(t),
         }
     }
 }
@@ -147,13 +142,11 @@ impl WorkerView {
     pub(crate) fn stays(self, outcome: Outcome) -> WorkerMove
         ensures { result ≡ stays outcome self }
     {
-        let lock = self.lock;
-        let call = self.call;
         WorkerMove {
-            push: Push::Nothing,
-            lock: lock,
-            call: call,
-            outcome: outcome,
+            push: None,
+            lock: self.lock,
+            call: self.call,
+            outcome,
         }
     }
 
@@ -161,11 +154,10 @@ impl WorkerView {
     pub(crate) fn goes_on(self, call: WorkerCall) -> WorkerMove
         ensures { result ≡ goes_on call self }
     {
-        let lock = self.lock;
         WorkerMove {
-            push: Push::Nothing,
-            lock: lock,
-            call: call,
+            push: None,
+            lock: self.lock,
+            call,
             outcome: Outcome::Moved,
         }
     }
@@ -174,26 +166,29 @@ impl WorkerView {
     fn answers(self, outcome: Outcome) -> WorkerMove
         ensures { result ≡ answers outcome self }
     {
-        let lock = self.lock;
         WorkerMove {
-            push: Push::Nothing,
-            lock: lock,
+            push: None,
+            lock: self.lock,
             call: WorkerCall::Idle,
-            outcome: outcome,
+            outcome,
         }
     }
 
     // A store is made, for which there must be room.
-    pub(crate) fn stores(self, made: Push, outcome: Outcome, call: WorkerCall) -> WorkerMove
+    pub(crate) fn stores(
+        self,
+        made: Option<(Maker, StoreKind)>,
+        outcome: Outcome,
+        call: WorkerCall,
+    ) -> WorkerMove
         ensures { result ≡ storing made outcome call self }
     {
         if self.room {
-            let lock = self.lock;
             return WorkerMove {
                 push: made,
-                lock: lock,
-                call: call,
-                outcome: outcome,
+                lock: self.lock,
+                call,
+                outcome,
             };
         }
         self.stays(Outcome::Wait)
@@ -205,10 +200,10 @@ impl WorkerView {
     {
         if met {
             return WorkerMove {
-                push: Push::Nothing,
-                lock: Lock { holder: holder },
-                call: call,
-                outcome: outcome,
+                push: None,
+                lock: Lock { holder },
+                call,
+                outcome,
             };
         }
         self.stays(Outcome::Wait)
@@ -218,9 +213,8 @@ impl WorkerView {
     fn at_end(self) -> bool
         ensures { result ≡ at_end self }
     {
-        let tail = self.tail;
         let end = Index { at: 2147483647 };
-        tail.at_most(end) & end.at_most(tail)
+        self.tail.at_most(end) & end.at_most(self.tail)
     }
 
     // Put, step 1: load head. The put ends here if the tail is at its end or the slots are filled.
@@ -228,12 +222,10 @@ impl WorkerView {
         requires { WorkerViewInRange self }
         ensures { result ≡ put_load_head task self }
     {
-        let tail = self.tail;
-        let head = self.head;
         if self.at_end() {
             return self.answers(Outcome::End);
         }
-        if tail.is_above_by(head, self.slots - 1) {
+        if self.tail.is_above_by(self.head, self.slots - 1) {
             return self.answers(Outcome::Full);
         }
         self.goes_on(WorkerCall::PutStoreSlot(task))
@@ -243,9 +235,8 @@ impl WorkerView {
     fn put_store_slot(self, task: u32) -> WorkerMove
         ensures { result ≡ put_store_slot task self }
     {
-        let tail = self.tail;
         self.stores(
-            Push::One(Maker::APut, StoreKind::Slot(task, tail)),
+            Some((Maker::APut, StoreKind::Slot(task, self.tail))),
             Outcome::Moved,
             WorkerCall::PutStoreTail,
         )
@@ -256,9 +247,8 @@ impl WorkerView {
         requires { WorkerViewInRange self }
         ensures { result ≡ put_store_tail self }
     {
-        let tail = self.tail;
         self.stores(
-            Push::One(Maker::APut, StoreKind::Tail(tail.next())),
+            Some((Maker::APut, StoreKind::Tail(self.tail.next()))),
             Outcome::Stored,
             WorkerCall::Idle,
         )
@@ -269,10 +259,9 @@ impl WorkerView {
         requires { WorkerViewInRange self }
         ensures { result ≡ take_store_tail self }
     {
-        let tail = self.tail;
-        let t = tail.previous();
+        let t = self.tail.previous();
         self.stores(
-            Push::One(Maker::ATake, StoreKind::Tail(t)),
+            Some((Maker::ATake, StoreKind::Tail(t))),
             Outcome::Moved,
             WorkerCall::TakeLoadHead(t),
         )
@@ -282,8 +271,7 @@ impl WorkerView {
     fn take_load_head(self, t: Index) -> WorkerMove
         ensures { result ≡ take_load_head t self }
     {
-        let head = self.head;
-        if head.at_most(t) {
+        if self.head.at_most(t) {
             return self.goes_on(WorkerCall::TakeLoadSlot(t));
         }
         self.goes_on(WorkerCall::TakeLock(t))
@@ -293,10 +281,8 @@ impl WorkerView {
     fn take_lock(self, t: Index) -> WorkerMove
         ensures { result ≡ take_lock t self }
     {
-        let lock = self.lock;
-        let met = lock.is_free() & self.drained;
         self.locks(
-            met,
+            self.lock.is_free() & self.drained,
             Holder::TheWorker,
             Outcome::Moved,
             WorkerCall::TakeReloadHead(t),
@@ -308,9 +294,7 @@ impl WorkerView {
         requires { index_in_range t ≡ true }
         ensures { result ≡ take_reload_head t self }
     {
-        let head = self.head;
-        let above = t.next();
-        if above.at_most(head) {
+        if t.next().at_most(self.head) {
             return self.goes_on(WorkerCall::TakeRestoreTail(t));
         }
         self.goes_on(WorkerCall::TakeUnlockTask(t))
@@ -322,7 +306,7 @@ impl WorkerView {
         ensures { result ≡ take_restore_tail t self }
     {
         self.stores(
-            Push::One(Maker::ATake, StoreKind::Tail(t.next())),
+            Some((Maker::ATake, StoreKind::Tail(t.next()))),
             Outcome::Moved,
             WorkerCall::TakeUnlockEmpty,
         )
@@ -365,20 +349,18 @@ pub(crate) fn worker_move(view: WorkerView) -> WorkerMove
     requires { WorkerViewInRange view }
     ensures { result ≡ worker_move view.call view }
 {
-    let call = view.call;
-    match call {
-        WorkerCall::Idle => return view.stays(Outcome::Place),
-        WorkerCall::PutLoadHead(task) => return view.put_load_head(task),
-        WorkerCall::PutStoreSlot(task) => return view.put_store_slot(task),
-        WorkerCall::PutStoreTail => return view.put_store_tail(),
-        WorkerCall::TakeStoreTail => return view.take_store_tail(),
-        WorkerCall::TakeLoadHead(t) => return view.take_load_head(t),
-        WorkerCall::TakeLoadSlot(_) => return view.take_load_slot(),
-        WorkerCall::TakeLock(t) => return view.take_lock(t),
-        WorkerCall::TakeReloadHead(t) => return view.take_reload_head(t),
-        WorkerCall::TakeRestoreTail(t) => return view.take_restore_tail(t),
-        WorkerCall::TakeUnlockEmpty => return view.take_unlock_empty(),
-        WorkerCall::TakeUnlockTask(t) => return view.take_unlock_task(t),
-        WorkerCall::TakeLoadLastSlot(_) => return view.take_load_slot(),
+    match view.call {
+        WorkerCall::Idle => view.stays(Outcome::Place),
+        WorkerCall::PutLoadHead(task) => view.put_load_head(task),
+        WorkerCall::PutStoreSlot(task) => view.put_store_slot(task),
+        WorkerCall::PutStoreTail => view.put_store_tail(),
+        WorkerCall::TakeStoreTail => view.take_store_tail(),
+        WorkerCall::TakeLoadHead(t) => view.take_load_head(t),
+        WorkerCall::TakeLoadSlot(_) | WorkerCall::TakeLoadLastSlot(_) => view.take_load_slot(),
+        WorkerCall::TakeLock(t) => view.take_lock(t),
+        WorkerCall::TakeReloadHead(t) => view.take_reload_head(t),
+        WorkerCall::TakeRestoreTail(t) => view.take_restore_tail(t),
+        WorkerCall::TakeUnlockEmpty => view.take_unlock_empty(),
+        WorkerCall::TakeUnlockTask(t) => view.take_unlock_task(t),
     }
 }

@@ -1,7 +1,8 @@
-use crate::tags;
-use machine::{Machine, Thief, ThiefCall, Worker};
-use number::{put_word, word_at};
-use stores::{Index, Lock, Spacing, Store, StoreBuffer, StoreKind};
+use crate::tags::{Tagged, holder_of, number_of};
+use machine::{Machine, Thief, Worker};
+use number::{put_bytes, word_at};
+use std::array;
+use stores::{Index, Lock, Spacing, Store, StoreBuffer};
 use terms::Sizes;
 
 // The image of a machine is 487 numbers of eight bytes each: six sizes, 256 slots, head, tail, who holds the lock, how many stores are
@@ -14,79 +15,61 @@ const NUMBERS: usize = 487;
 // The response to `o`. The image is behind its first 25 bytes.
 pub(crate) type Response = [u8; 3921];
 
-// A number of an image, by its place. (Places are below 487; the remainder lets the proof see it.)
+// A number of an image, by its place. (Places are below 487; the remainder lets the proof see it. In two halves: of an image that is cut, what is
+// there counts.)
 fn number_at(image: &[u8], place: usize) -> u64 {
     let at = 8 * (place % NUMBERS);
-    word_at(image, at) as u64 + 4294967296 * word_at(image, at + 4) as u64
+    u64::from(word_at(image, at)) | u64::from(word_at(image, at + 4)) << 32
 }
 
 // A number of at most 32 bits.
 fn small_at(image: &[u8], place: usize) -> u32 {
-    (number_at(image, place) % 4294967296) as u32
+    word_at(image, 8 * (place % NUMBERS))
 }
 
 // A number that is signed.
 fn index_at(image: &[u8], place: usize) -> Index {
-    let bits = number_at(image, place);
     Index {
-        at: ((bits / 4294967296) as i64) << 32 | (bits % 4294967296) as i64,
+        at: number_at(image, place).cast_signed(),
     }
 }
 
-fn stores_in(image: &[u8]) -> [Store; 64] {
-    let mut stores = [Store {
-        kind: StoreKind::Client,
-    }; 64];
-    for i in 0..64 {
-        let at = 266 + 3 * i;
-        let index = index_at(image, at + 1);
-        let kind = tags::store_kind_of(small_at(image, at), index, small_at(image, at + 2));
-        stores[i] = Store { kind: kind };
-    }
-    stores
+// A store or a call.
+fn tagged_at(image: &[u8], place: usize) -> Tagged {
+    let at = place % NUMBERS;
+    Tagged(
+        small_at(image, at),
+        index_at(image, at + 1),
+        small_at(image, at + 2),
+    )
 }
 
-fn thieves_in(image: &[u8]) -> [Thief; 8] {
-    let mut thieves = [Thief {
-        call: ThiefCall::Idle,
-    }; 8];
-    for i in 0..8 {
-        let at = 463 + 3 * i;
-        let index = index_at(image, at + 1);
-        let call = tags::thief_call_of(small_at(image, at), index, small_at(image, at + 2));
-        thieves[i] = Thief { call: call };
+// Six sizes, in the order of a file.
+pub(crate) fn sizes_of([slots, buffer, spacing, margin, thieves, start]: [u32; 6]) -> Sizes {
+    Sizes {
+        slots,
+        buffer,
+        spacing,
+        margin,
+        thieves,
+        start,
     }
-    thieves
 }
 
-fn slots_in(image: &[u8]) -> [u32; 256] {
-    let mut slots = [0; 256];
-    for i in 0..256 {
-        slots[i] = small_at(image, 6 + i);
-    }
-    slots
-}
-
-// The machine that an image is of.
+// The machine that an image is of. (An index of `from_fn` is below the array's length; the remainders let the proof see it.)
 pub(crate) fn machine_in(image: &[u8]) -> Machine {
-    let index = index_at(image, 461);
     Machine {
-        sizes: Sizes {
-            slots: small_at(image, 0),
-            buffer: small_at(image, 1),
-            spacing: small_at(image, 2),
-            margin: small_at(image, 3),
-            thieves: small_at(image, 4),
-            start: small_at(image, 5),
-        },
-        slots: slots_in(image),
+        sizes: sizes_of(array::from_fn(|i| small_at(image, i))),
+        slots: array::from_fn(|i| small_at(image, 6 + i % 256)),
         head: index_at(image, 262),
         tail: index_at(image, 263),
         lock: Lock {
-            holder: tags::holder_of(number_at(image, 264)),
+            holder: holder_of(number_at(image, 264)),
         },
         buffer: StoreBuffer {
-            stores: stores_in(image),
+            stores: array::from_fn(|i| Store {
+                kind: tagged_at(image, 266 + 3 * (i % 64)).into(),
+            }),
             count: number_at(image, 265) as usize,
         },
         spacing: Spacing {
@@ -94,72 +77,51 @@ pub(crate) fn machine_in(image: &[u8]) -> Machine {
             begun: small_at(image, 459) != 0,
         },
         worker: Worker {
-            call: tags::worker_call_of(small_at(image, 460), index, small_at(image, 462)),
+            call: tagged_at(image, 460).into(),
         },
-        thieves: thieves_in(image),
+        thieves: array::from_fn(|i| Thief {
+            call: tagged_at(image, 463 + 3 * (i % 8)).into(),
+        }),
     }
 }
 
 fn put_number(response: &mut Response, place: usize, n: u64) {
-    let at = 25 + 8 * (place % NUMBERS);
-    put_word(response, at, (n % 4294967296) as u32);
-    put_word(response, at + 4, (n / 4294967296) as u32);
+    put_bytes(response, 25 + 8 * (place % NUMBERS), &n.to_le_bytes());
 }
 
-// The number that an index is. One below 0 has the bits of -1 less the index, each the other way round.
-fn bits_of(index: Index) -> u64 {
-    let n = index.at;
-    if n < 0 {
-        return u64::MAX - (-1 - n) as u64;
-    }
-    n as u64
-}
-
-fn put_tagged(response: &mut Response, place: usize, told: tags::Tagged) {
+fn put_tagged(response: &mut Response, place: usize, told: Tagged) {
     let at = place % NUMBERS;
-    put_number(response, at, told.0 as u64);
-    put_number(response, at + 1, bits_of(told.1));
-    put_number(response, at + 2, told.2 as u64);
+    put_number(response, at, told.0.into());
+    put_number(response, at + 1, told.1.at.cast_unsigned());
+    put_number(response, at + 2, told.2.into());
 }
 
-fn put_stores(response: &mut Response, stores: [Store; 64]) {
-    for i in 0..64 {
-        put_tagged(response, 266 + 3 * i, tags::of_store(stores[i]));
-    }
-}
-
-fn put_thieves(response: &mut Response, thieves: [Thief; 8]) {
-    for i in 0..8 {
-        put_tagged(response, 463 + 3 * i, tags::of_thief(thieves[i]));
-    }
-}
-
-fn put_slots(response: &mut Response, slots: [u32; 256]) {
-    for i in 0..256 {
-        put_number(response, 6 + i, slots[i] as u64);
-    }
+fn put_sizes(response: &mut Response, sizes: Sizes) {
+    put_number(response, 0, sizes.slots.into());
+    put_number(response, 1, sizes.buffer.into());
+    put_number(response, 2, sizes.spacing.into());
+    put_number(response, 3, sizes.margin.into());
+    put_number(response, 4, sizes.thieves.into());
+    put_number(response, 5, sizes.start.into());
 }
 
 // Puts the image of a machine.
-pub(crate) fn put_machine(response: &mut Response, machine: Machine) {
-    let slots = machine.slots;
-    let buffer = machine.buffer;
-    let stores = buffer.stores;
-    let thieves = machine.thieves;
-    put_number(response, 0, machine.sizes.slots as u64);
-    put_number(response, 1, machine.sizes.buffer as u64);
-    put_number(response, 2, machine.sizes.spacing as u64);
-    put_number(response, 3, machine.sizes.margin as u64);
-    put_number(response, 4, machine.sizes.thieves as u64);
-    put_number(response, 5, machine.sizes.start as u64);
-    put_slots(response, slots);
-    put_number(response, 262, bits_of(machine.head));
-    put_number(response, 263, bits_of(machine.tail));
-    put_number(response, 264, tags::of_lock(machine.lock));
-    put_number(response, 265, buffer.count as u64);
-    put_stores(response, stores);
-    put_number(response, 458, machine.spacing.count as u64);
-    put_number(response, 459, machine.spacing.begun as u64);
-    put_tagged(response, 460, tags::of_worker(machine.worker));
-    put_thieves(response, thieves);
+pub(crate) fn put_machine(response: &mut Response, machine: &Machine) {
+    put_sizes(response, machine.sizes);
+    for (i, task) in machine.slots.iter().enumerate() {
+        put_number(response, 6 + i, u64::from(*task));
+    }
+    put_number(response, 262, machine.head.at.cast_unsigned());
+    put_number(response, 263, machine.tail.at.cast_unsigned());
+    put_number(response, 264, number_of(machine.lock.holder));
+    put_number(response, 265, machine.buffer.count as u64);
+    for (i, store) in machine.buffer.stores.iter().enumerate() {
+        put_tagged(response, 266 + 3 * i, store.kind.into());
+    }
+    put_number(response, 458, machine.spacing.count.into());
+    put_number(response, 459, machine.spacing.begun.into());
+    put_tagged(response, 460, machine.worker.call.into());
+    for (i, thief) in machine.thieves.iter().enumerate() {
+        put_tagged(response, 463 + 3 * i, thief.call.into());
+    }
 }

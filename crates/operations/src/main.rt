@@ -14,11 +14,13 @@
 mod image;
 mod tags;
 
-use image::{IMAGE_BYTES, Response, machine_in, put_machine};
+use image::{IMAGE_BYTES, machine_in, put_machine, sizes_of};
 use number::{put_word, word_at};
-use schedule::{Check, Queue};
-use std::io;
+use schedule::Queue;
 use std::io::{ErrorKind, Read};
+use std::{array, io};
+use stores::Index;
+use tags::Tagged;
 use terms::{Sizes, Tally};
 
 // The longest request, without the five bytes in front.
@@ -26,14 +28,7 @@ const REQUEST_ROOM: usize = 65536;
 
 // Writes a length.
 fn write_length(rt: &impl Print, length: usize) -> io::Result<()> {
-    let mut word = [0; 4];
-    put_word(&mut word, 0, (length % 4294967296) as u32);
-    rt.write_all(&word)
-}
-
-// Writes the response to `o`.
-fn write_step(rt: &impl Print, response: &Response) -> io::Result<()> {
-    rt.write_all(response)
+    rt.write_all(&((length % 4294967296) as u32).to_le_bytes())
 }
 
 // `o`, one step of a run. Given are the image of a machine, three totals, and an entry's kind, which is a byte, and operand. The response
@@ -45,7 +40,8 @@ fn answer_step(rt: &impl Print, request: &[u8]) -> io::Result<()> {
         waits: word_at(request, IMAGE_BYTES + 8),
     };
     let kind = word_at(request, IMAGE_BYTES + 12) % 256;
-    let entry = tags::entry_of(kind, word_at(request, IMAGE_BYTES + 13));
+    let operand = word_at(request, IMAGE_BYTES + 13);
+    let entry = Tagged(kind, Index { at: 0 }, operand).into();
     let done = schedule::step(machine_in(request), tally, entry);
     let outcome = done.outcome;
     let mut response = [0; 3921];
@@ -56,29 +52,19 @@ fn answer_step(rt: &impl Print, request: &[u8]) -> io::Result<()> {
     put_word(&mut response, 13, done.tally.aborts);
     put_word(&mut response, 17, done.tally.waits);
     put_word(&mut response, 21, done.hidden);
-    put_machine(&mut response, done.machine);
-    write_step(rt, &response)
+    put_machine(&mut response, &done.machine);
+    rt.write_all(&response)
 }
 
 // Writes a response of a byte and a number.
 fn write_pair(rt: &impl Print, byte: u8, number: u32) -> io::Result<()> {
-    let mut response = [0; 9];
-    response[0] = 5;
-    response[4] = byte;
-    put_word(&mut response, 5, number);
-    rt.write_all(&response)
+    let [first, second, third, fourth] = number.to_le_bytes();
+    rt.write_all(&[5, 0, 0, 0, byte, first, second, third, fourth])
 }
 
 // The six sizes that a request lends, at its front.
 fn lent_sizes(request: &[u8]) -> Sizes {
-    Sizes {
-        slots: word_at(request, 0),
-        buffer: word_at(request, 4),
-        spacing: word_at(request, 8),
-        margin: word_at(request, 12),
-        thieves: word_at(request, 16),
-        start: word_at(request, 20),
-    }
+    sizes_of(array::from_fn(|i| word_at(request, 4 * (i % 6))))
 }
 
 // `e`, the entry to obey at a place of two parts. Given are six sizes, the place, how many kinds there are, the kinds, and the operands. The response is the entry's kind,
@@ -95,8 +81,8 @@ fn answer_entry(rt: &impl Print, request: &[u8]) -> io::Result<()> {
         &request[operands..],
         at,
     );
-    let told = tags::of_entry(entry);
-    write_pair(rt, (told.0 % 256) as u8, told.2)
+    let Tagged(kind, _, operand) = entry.into();
+    write_pair(rt, (kind % 256) as u8, operand)
 }
 
 // `c`, the check of the entries of two parts. Given are six sizes, how many kinds there are, the kinds, and the operands. The response is the refusal's number, which is a
@@ -112,12 +98,8 @@ fn answer_check(rt: &impl Print, request: &[u8]) -> io::Result<()> {
         &request[operands..],
     );
     match checked {
-        Check::Passed => write_pair(rt, 0, 0),
-        Check::Failed(refusal) => write_pair(
-            rt,
-            refusal.number(),
-            (refusal.place() % 4294967296) as u32,
-        ),
+        Ok(()) => write_pair(rt, 0, 0),
+        Err(refusal) => write_pair(rt, refusal.number(), (refusal.place() % 4294967296) as u32),
     }
 }
 
@@ -135,10 +117,8 @@ fn answer_parts(rt: &impl Print, file: &[u8]) -> io::Result<()> {
 // `l` and `s`, the lines that are printed for a file, by the program of the queue with a lock and by that of the one with compare-and-swap.
 fn answer_lines(rt: &impl Print, queue: Queue, file: &[u8]) -> io::Result<()> {
     let text = lines::lines_of(queue, file);
-    let end = text.length;
-    let bytes = text.bytes;
-    write_length(rt, end)?;
-    rt.write_all(&bytes[0..end])
+    write_length(rt, text.length)?;
+    rt.write_all(&text.bytes[..text.length])
 }
 
 // Answers a request. One that names no function gets an empty response.
@@ -159,12 +139,8 @@ fn read_whole(rt: &impl Input, bytes: &mut [u8]) -> io::Result<bool> {
     let mut reader = rt.reader();
     match reader.read_exact(bytes) {
         Ok(()) => Ok(true),
-        Err(error) => {
-            if error.kind() == ErrorKind::UnexpectedEof {
-                return Ok(false);
-            }
-            Err(error)
-        }
+        Err(error) if error.kind() == ErrorKind::UnexpectedEof => Ok(false),
+        Err(error) => Err(error),
     }
 }
 

@@ -24,12 +24,10 @@ pub fn rehearse<R: Read, W: Write>(reader: &mut R, writer: &mut W, queue: Queue)
     let mut input = [0; INPUT_ROOM];
     let length = read_full(reader, &mut input)?;
     let text = lines::lines_of(queue, &input[..length]);
-    let end = text.length;
-    let bytes = text.bytes;
-    write_whole(writer, &bytes[..end])
+    write_whole(writer, &text.bytes[..text.length])
 }
 
-// Writes all of the bytes. After an error it has written a beginning of them.
+// Writes all of the bytes. After an error it has written a beginning of them. (Of an error std's `write_all` promises nothing.)
 fn write_whole<W: Write>(writer: &mut W, bytes: &[u8]) -> io::Result<()>
     ensures ok { OnOk result (Appends (W.contents writer.old) (W.contents writer.new) bytes.now) }
     ensures err { OnErr result ((n : ℕ) × Appends (W.contents writer.old) (W.contents writer.new) (take n bytes.now)) }
@@ -45,7 +43,8 @@ fn write_whole<W: Write>(writer: &mut W, bytes: &[u8]) -> io::Result<()>
     Ok(())
 }
 
-// Reads until the buffer is full or the input ends. How many bytes it put at the start of the buffer.
+// Reads until the buffer is full or the input ends. How many bytes it put at the start of the buffer. (std's `read_exact` does not tell, and its
+// `read_to_end` allocates.)
 fn read_full<R: Read>(reader: &mut R, buffer: &mut [u8]) -> io::Result<usize>
     ensures bound { IfOk result (λ filled. filled ≤ length buffer.new) }
     ensures bytes { IfOk result (λ filled. Consumes (R.remaining reader.old) (R.remaining reader.new) (take filled buffer.new)) }

@@ -17,7 +17,7 @@ use Rattle.machine.specs.Obey.{obey, obey_in_range}
 use Rattle.machine.specs.Linearizable.{ff_the}
 use Rattle.machine.specs.Perform.{thief_view, worker_view, perform_worker, step_of_worker, perform_thief, step_of_thief}
 use Rattle.machine.specs.Entries.{unless_worker_runs, worker_goes_on}
-use Rattle.properties.specs.Types.{Entry, Drain, ClientStore, BeginPut, BeginTake, WorkerStep, BeginSteal, ThiefStep, Done, Machine, Moved, Client, Push, One, TheClient, Thief, ThiefCall, StealLock, StealLoadHead, StealRaiseHead, StealLoadTail, StealLoadSlot, StealUnlockTask, StealRestoreHead, StealUnlockAbort, ThiefView, ThiefMove, WorkerCall, PutLoadHead, PutStoreSlot, PutStoreTail, TakeStoreTail, TakeLoadHead, TakeLoadSlot, TakeLock, TakeReloadHead, TakeRestoreTail, TakeUnlockEmpty, TakeUnlockTask, TakeLoadLastSlot, WorkerView, WorkerMove}
+use Rattle.properties.specs.Types.{Entry, Drain, ClientStore, BeginPut, BeginTake, WorkerStep, BeginSteal, ThiefStep, Done, Machine, Moved, Client, Option, Maker, StoreKind, Some, TheClient, Thief, ThiefCall, StealLock, StealLoadHead, StealRaiseHead, StealLoadTail, StealLoadSlot, StealUnlockTask, StealRestoreHead, StealUnlockAbort, ThiefView, ThiefMove, WorkerCall, PutLoadHead, PutStoreSlot, PutStoreTail, TakeStoreTail, TakeLoadHead, TakeLoadSlot, TakeLock, TakeReloadHead, TakeRestoreTail, TakeUnlockEmpty, TakeUnlockTask, TakeLoadLastSlot, WorkerView, WorkerMove}
 use Rattle.properties.specs.Renumbering.{BlindToNumbers, renumber_entry, renumber_outcome}
 use Rattle.properties.proofs.Laws.Renumbering.{blind_by_renumbering, choice_renumber, count_renumber, drained_renumber, loads_renumber, looked_at_renumber, memory_renumber, push_renumber, renumber_buffer, renumber_push, tail_renumber, thief_load_renumber, worker_load_renumber, zeros_renumber}
 
@@ -145,7 +145,7 @@ module _ (f : ℕ → ℕ) where
   -- ── What an entry changes ───────────────────────────────────────────────────────────────────────────────────────────────────
 
   -- a store becomes pending, if there is one
-  store_renumber : (p : Push) (m : Machine) → with_store (renumber_push f p) (renumber m) ≡ renumber (with_store p m)
+  store_renumber : (p : Option (Maker × StoreKind)) (m : Machine) → with_store (renumber_push f p) (renumber m) ≡ renumber (with_store p m)
   store_renumber p m = rw (push_renumber f p m.buffer, count_renumber f p m.spacing)
 
   -- a thief's move
@@ -211,7 +211,7 @@ module _ (f : ℕ → ℕ) where
     obey_in_range_renumber : (m : Machine) (e : Entry) → obey_in_range (renumber m) (renumber_entry f e) ≡ renumber_done (obey_in_range m e)
     obey_in_range_renumber m Drain =
         cond_map renumber_done (not (nothing_pending m)) (drained_renumber f (λ l t b. done Moved (with_memory l t b (renumber m))) m.sizes.slots m.slots m.tail m.buffer) refl
-    obey_in_range_renumber m ClientStore = unless_renumber m _ (cond_map renumber_done (has_room m) (ap (done Moved) (store_renumber (One TheClient Client) m)) refl)
+    obey_in_range_renumber m ClientStore = unless_renumber m _ (cond_map renumber_done (has_room m) (ap (done Moved) (store_renumber (Some (TheClient, Client)) m)) refl)
     obey_in_range_renumber m (BeginPut x) = unless_renumber m (worker_goes_on (PutLoadHead x) m) refl
     obey_in_range_renumber m BeginTake = unless_renumber m _ (cond_map renumber_done (too_early m.spacing m.sizes.spacing) refl refl)
     obey_in_range_renumber m WorkerStep = worker_step_renumber m m.worker.call

@@ -30,7 +30,7 @@ use Rattle.machine.proofs.Linearizable.Drain.{some_pending}
 use Rattle.machine.proofs.Linearizable.Invariant.{HoldsTail, lowered}
 use Rattle.machine.proofs.Linearizable.Plain.{Plain, entry_keeps}
 use Rattle.machine.proofs.Linearizable.Theorem.{fresh_plain}
-use Rattle.properties.specs.Types.{Done, Entry, Drain, ClientStore, BeginPut, BeginTake, WorkerStep, BeginSteal, ThiefStep, Index, Machine, Sizes, Push, Nothing, One, TheClient, Client, Tail, Store, StoreBuffer, WorkerCall, PutLoadHead, PutStoreSlot, PutStoreTail, TakeStoreTail, TakeLoadHead, TakeLoadSlot, TakeLock, TakeReloadHead, TakeRestoreTail, TakeUnlockEmpty, TakeUnlockTask, TakeLoadLastSlot, WorkerMove, WorkerView}
+use Rattle.properties.specs.Types.{Done, Entry, Drain, ClientStore, BeginPut, BeginTake, WorkerStep, BeginSteal, ThiefStep, Index, Machine, Sizes, Option, Maker, StoreKind, None, Some, TheClient, Client, Tail, Store, StoreBuffer, WorkerCall, PutLoadHead, PutStoreSlot, PutStoreTail, TakeStoreTail, TakeLoadHead, TakeLoadSlot, TakeLock, TakeReloadHead, TakeRestoreTail, TakeUnlockEmpty, TakeUnlockTask, TakeLoadLastSlot, WorkerMove, WorkerView}
 use Rattle.properties.specs.TakeStores.{TakeStoresAreTakes, how_many, made_after, made_by, made_by_step, made_then}
 
 -- ── Which stores of a list lower the tail ───────────────────────────────────────────────────────────────────────────────────
@@ -48,14 +48,14 @@ lowering_snoc t [] s = refl
 lowering_snoc t (a ∷ l) s = ap (λ r. lowers_tail t a.kind ∷ r) (lowering_snoc (tail_after t a.kind) l s)
 
 -- of the store that an entry makes, if it makes one
-abbrev lowering_push : Index → Push → List Bool
-lowering_push t Nothing = []
-lowering_push t (One w k) = lowers_tail t k ∷ []
+abbrev lowering_push : Index → Option (Maker × StoreKind) → List Bool
+lowering_push t None = []
+lowering_push t (Some (w, k)) = lowers_tail t k ∷ []
 
-pushed_lowering : (t : Index) (b : StoreBuffer) (p : Push) → length b.stores ≡ 64 → PushFits 64 p b.count
+pushed_lowering : (t : Index) (b : StoreBuffer) (p : Option (Maker × StoreKind)) → length b.stores ≡ 64 → PushFits 64 p b.count
     → lowering t (pending (pushed_in p b)) ≡ lowering t (pending b) ++ lowering_push (newest_tail t b) p
-pushed_lowering t b Nothing long fits = sym (append-nil (lowering t (pending b)))
-pushed_lowering t b (One w k) long fits = ap (lowering t) (push_pending (record { kind = k }) b (omega arith)) ∙ lowering_snoc t (pending b) (record { kind = k })
+pushed_lowering t b None long fits = sym (append-nil (lowering t (pending b)))
+pushed_lowering t b (Some (w, k)) long fits = ap (lowering t) (push_pending (record { kind = k }) b (omega arith)) ∙ lowering_snoc t (pending b) (record { kind = k })
 
 -- .. pending in a machine
 abbrev lowering_in : Machine → List Bool
@@ -133,7 +133,7 @@ module _ {s : Sizes} {n : ℕ} {w : Watch Machine} (v : Plain s n w) where
   in_range_made Drain = decide (Made m Drain) (not (nothing_pending m)) drained_made (λ none. refl)
   in_range_made ClientStore =
       either (Made m ClientStore) (worker_runs m.worker.call) refl
-      (decide (Made m ClientStore) (has_room m) (λ room. sym (pushed_lowering m.tail m.buffer (One TheClient Client) v.sound.buffer.cells (with_room room))) (λ full. refl))
+      (decide (Made m ClientStore) (has_room m) (λ room. sym (pushed_lowering m.tail m.buffer (Some (TheClient, Client)) v.sound.buffer.cells (with_room room))) (λ full. refl))
   in_range_made (BeginPut x) = either (Made m (BeginPut x)) (worker_runs m.worker.call) refl refl
   in_range_made BeginTake = either (Made m BeginTake) (worker_runs m.worker.call) refl (either (Made m BeginTake) (too_early m.spacing m.sizes.spacing) refl refl)
   in_range_made WorkerStep = worker_made

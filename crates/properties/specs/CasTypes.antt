@@ -1,5 +1,5 @@
 -- The declared types of FF-CL's machine that proofs here speak of, passed on under one name; those that every queue has are in `Types`. Nothing is defined here.
-pub use Rattle.cas.specs.declared.state.Done.{Done}
+pub use Rattle.cas.specs.Types.{Done}
 pub use Rattle.cas.specs.declared.state.Machine.{Machine}
 pub use Rattle.cas.specs.declared.thief.Thief.{Thief}
 pub use Rattle.cas.specs.declared.thief.ThiefCall.{ThiefCall}

@@ -5,17 +5,14 @@ pub use Rattle.terms.specs.declared.outcome.Outcome.{Outcome}
 pub use Rattle.terms.specs.declared.outcome.Outcome.TheVariants.{Moved, Place, Early, Wait, Stored, Task, Empty, Abort, Full, End}
 pub use Rattle.terms.specs.declared.sizes.Sizes.{Sizes}
 pub use Rattle.stores.specs.declared.index.Index.{Index}
-pub use Rattle.stores.specs.declared.load.Load.{Load}
-pub use Rattle.stores.specs.declared.load.Load.TheVariants.{NoSlot, SlotOf}
-pub use Rattle.machine.specs.declared.machine.Done.{Done}
+pub use Rattle.std.specs.Prelude.{Option, None, Some}
+pub use Rattle.machine.specs.Types.{Done}
 pub use Rattle.machine.specs.declared.machine.Machine.{Machine}
 pub use Rattle.stores.specs.declared.spacing.Spacing.{Spacing}
 pub use Rattle.stores.specs.declared.store_buffer.Store.{Store}
 pub use Rattle.stores.specs.declared.store_buffer.StoreBuffer.{StoreBuffer}
 pub use Rattle.stores.specs.declared.store_buffer.StoreKind.{StoreKind}
 pub use Rattle.stores.specs.declared.store_buffer.StoreKind.TheVariants.{Client, Tail, Slot}
-pub use Rattle.stores.specs.declared.store_buffer.Push.{Push}
-pub use Rattle.stores.specs.declared.store_buffer.Push.TheVariants.{Nothing, One}
 pub use Rattle.stores.specs.declared.store_buffer.Maker.{Maker}
 pub use Rattle.stores.specs.declared.store_buffer.Maker.TheVariants.{TheClient, APut, ATake}
 pub use Rattle.machine.specs.declared.thief.Thief.{Thief}

@@ -7,21 +7,22 @@ use native.Mathlib.Omega.{arith}
 use lib.Dec.{eqb, ltb}
 use lib.ListN.{get_or, length}
 use borrow.Author.Tests.{eqb-true, le-leb, lt-leb, lt-ltb, ltb-false, ltb-true}
+use Rattle.std.proofs.Common.{Result, Ok, Err}
 use Rattle.terms.specs.Refusal.{number_of, place_of}
 use Rattle.terms.proofs.Laws.Tests.{and_left, by_test, either}
-use Rattle.schedule.specs.Types.{Check, Failed, Kind, Passed, Refusal, Sizes, Who}
+use Rattle.schedule.specs.Types.{Kind, Refusal, Sizes, Who}
 use Rattle.schedule.specs.Entries.{check_entries, check_of, check_parts, entry_at}
 use Rattle.schedule.specs.Faults.{CheckTellsFirstFault, PartsTellFirstFault, TellsFirstFault, entry_has, operand_allowed}
 use Rattle.schedule.specs.Format.{words_in}
-use Rattle.schedule.proofs.Laws.Check.{first_stops, not_both, range_all, range_failed}
+use Rattle.schedule.proofs.Laws.Check.{first_stops, range_all, range_failed}
 use Rattle.schedule.proofs.Laws.Entries.{entries_passed, entry_passed, entry_at_check, parts_apart, parts_together}
 use Rattle.schedule.proofs.Laws.Format.{length_words_in}
 
 -- ── One entry ───────────────────────────────────────────────────────────────────────────────────────────────────────────────
 
 -- a refusal with this number and this place is what a check failed with
-abbrev Told : Check → ℕ → ℕ → Type 0
-Told c number place = (r : Refusal) × ((c ≡ Failed r) × ((number_of r ≡ number) × (place_of r ≡ place)))
+abbrev Told : Result Unit Refusal → ℕ → ℕ → Type 0
+Told c number place = (r : Refusal) × ((c ≡ Err r) × ((number_of r ≡ number) × (place_of r ≡ place)))
 
 module _ (s : Sizes) (kinds operands : List ℕ) (at : ℕ) (inside : at < length kinds) where
   abbrev past : Bool
@@ -41,25 +42,25 @@ module _ (s : Sizes) (kinds operands : List ℕ) (at : ℕ) (inside : at < lengt
       && cond (eqb number 3) (past-6 i) (cond (eqb number 4) (le-leb (get_or kinds at 0) 6 (ltb-false 6 (get_or kinds at 0) past-6) i && not (found i)) false)
 
   -- an entry that passed has none
-  pub entry_clean : check_of (entry_at s kinds operands at) ≡ Passed → (number : ℕ) → entry_has s kinds operands number at ≡ false
+  pub entry_clean : check_of (entry_at s kinds operands at) ≡ Ok tt → (number : ℕ) → entry_has s kinds operands number at ≡ false
   entry_clean passed number =
       let clean = entry_passed s kinds operands at inside passed in
       has number false true clean.0 clean.1
       ∙ either (λ b. b ≡ false) (eqb number 3) refl (either (λ b. b ≡ false) (eqb number 4) refl refl)
 
   module _ (there : at < length operands) where
-    by_tests : check_of (entry_at s kinds operands at) ≡ cond past (Failed (Kind at)) (cond allowed Passed (Failed (Who at)))
+    by_tests : check_of (entry_at s kinds operands at) ≡ cond past (Err (Kind at)) (cond allowed (Ok tt) (Err (Who at)))
     by_tests = entry_at_check s kinds operands at inside ∙ by_test _ _ (lt-ltb at (length operands) there)
 
     -- the refusal of one that failed tells a fault that it has
-    pub entry_told : (r : Refusal) → check_of (entry_at s kinds operands at) ≡ Failed r
+    pub entry_told : (r : Refusal) → check_of (entry_at s kinds operands at) ≡ Err r
         → (entry_has s kinds operands (number_of r) (place_of r) ≡ true) × (place_of r ≡ at)
     entry_told r e = go past allowed refl refl (sym by_tests ∙ e)
       where
-        go : (p a : Bool) → past ≡ p → allowed ≡ a → cond p (Failed (Kind at)) (cond a Passed (Failed (Who at))) ≡ Failed r
+        go : (p a : Bool) → past ≡ p → allowed ≡ a → cond p (Err (Kind at)) (cond a (Ok (tt {0})) (Err (Who at))) ≡ Err r
             → (entry_has s kinds operands (number_of r) (place_of r) ≡ true) × (place_of r ≡ at)
         go true a past-6 found failed = let same : r ≡ Kind at = cc in rw same (has 3 true a past-6 found, refl)
-        go false true past-6 found failed = absurd (not_both (sym failed))
+        go false true past-6 found failed = cc
         go false false past-6 found failed = let same : r ≡ Who at = cc in rw same (has 4 false false past-6 found, refl)
 
     -- and a fault that it has, it fails with
@@ -79,12 +80,12 @@ module _ (s : Sizes) (kinds operands : List ℕ) (at : ℕ) (inside : at < lengt
         go false true past-6 found false true is-3 is-4 =
             absurd (false≢true (sym (has number false true past-6 found ∙ (λ i. cond (is-3 i) false (cond (is-4 i) false false))) ∙ e))
         go false false past-6 found false true is-3 is-4 =
-            (Who at, (by_tests ∙ (λ i. cond (past-6 i) (Failed (Kind at)) (cond (found i) Passed (Failed (Who at)))), (sym (eqb-true number 4 is-4), refl)))
+            (Who at, (by_tests ∙ (λ i. cond (past-6 i) (Err (Kind at)) (cond (found i) (Ok tt) (Err (Who at)))), (sym (eqb-true number 4 is-4), refl)))
 
 -- ── All entries ─────────────────────────────────────────────────────────────────────────────────────────────────────────────
 
 -- entries that all passed have no fault
-pub none_faulty : (s : Sizes) (kinds operands : List ℕ) → check_entries s kinds operands ≡ Passed → (number place : ℕ) → entry_has s kinds operands number place ≡ false
+pub none_faulty : (s : Sizes) (kinds operands : List ℕ) → check_entries s kinds operands ≡ Ok tt → (number place : ℕ) → entry_has s kinds operands number place ≡ false
 none_faulty s kinds operands passed number place = go (ltb place (length kinds)) refl
   where
     go : (b : Bool) → ltb place (length kinds) ≡ b → entry_has s kinds operands number place ≡ false
@@ -94,16 +95,16 @@ none_faulty s kinds operands passed number place = go (ltb place (length kinds))
     go false p = rw p
 
 module _ (s : Sizes) (kinds operands : List ℕ) (parallel : length operands ≡ length kinds) where
-  abbrev check_at : ℕ → Check
+  abbrev check_at : ℕ → Result Unit Refusal
   check_at at = check_of (entry_at s kinds operands at)
 
   -- an entry without a fault passed
-  clean_passed : (at : ℕ) → at < length kinds → ((number : ℕ) → entry_has s kinds operands number at ≡ false) → check_at at ≡ Passed
+  clean_passed : (at : ℕ) → at < length kinds → ((number : ℕ) → entry_has s kinds operands number at ≡ false) → check_at at ≡ Ok tt
   clean_passed at inside clean = go (check_at at) refl
     where
-      go : (c : Check) → check_at at ≡ c → check_at at ≡ Passed
-      go Passed e = e
-      go (Failed r) e =
+      go : (c : Result Unit Refusal) → check_at at ≡ c → check_at at ≡ Ok tt
+      go (Ok _) e = e
+      go (Err r) e =
           let told = entry_told s kinds operands at inside (omega arith) r e in
           absurd (false≢true (sym (clean (number_of r)) ∙ ap (entry_has s kinds operands (number_of r)) (sym told.1) ∙ told.0))
 
@@ -134,7 +135,7 @@ pub check_tells_first_fault : CheckTellsFirstFault
 check_tells_first_fault = tells
 
 -- what `check_entries` promises, of the answer that it hands back
-pub check_promises : (s : Sizes) (kinds bytes : List ℕ) (answer : Check) → answer ≡ check_parts s kinds bytes → (answer ≡ check_parts s kinds bytes) × PartsTellFirstFault s kinds bytes answer
+pub check_promises : (s : Sizes) (kinds bytes : List ℕ) (answer : Result Unit Refusal) → answer ≡ check_parts s kinds bytes → (answer ≡ check_parts s kinds bytes) × PartsTellFirstFault s kinds bytes answer
 check_promises s kinds bytes answer told = (
   told,
   record {

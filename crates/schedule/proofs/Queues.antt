@@ -4,15 +4,14 @@ use mathlib.Core.Bool.{true}
 use mathlib.Core.List.{List, map}
 use Prim.Native.Nat.{ℕ, ◌≤◌, ◌<◌}
 use lib.ListN.{length}
+use Rattle.std.proofs.Common.{Ok, Err}
 use Rattle.cas.specs.Linearizable.{ff_cl}
 use Rattle.machine.specs.Linearizable.{ff_the}
 use Rattle.terms.specs.Outcome.{value_of}
-use Rattle.terms.specs.Refusal.{Refuses}
-use Rattle.schedule.specs.Types.{Accepted, FfCl, FfThe, Queue, Ran, Refusal, Room, Sizes}
-use Rattle.schedule.specs.declared.reader.Reading.TheVariants as reading
-use Rattle.schedule.specs.declared.runner.Running.TheVariants as running
+use Rattle.terms.specs.Refusal.{Refuses, refusal_in}
+use Rattle.schedule.specs.Types.{FfCl, FfThe, Queue, Refusal, Room, Sizes}
 use Rattle.schedule.specs.Demand3.{RunLinearizesOn}
-use Rattle.schedule.specs.Faults.{refusal_in_running, run_has}
+use Rattle.schedule.specs.Faults.{run_has}
 use Rattle.schedule.specs.Format.{all_below, words_in}
 use Rattle.schedule.specs.Hidden.{RunWithinNeeded}
 use Rattle.schedule.specs.Reader.{read_file}
@@ -57,22 +56,22 @@ parts_values_fit q s kinds bytes below =
 
 module _ (q : Queue) (file : List ℕ) (room : ℕ) where
   -- what is not read is not run
-  pub run_refused : {r : Refusal} → read_file file ≡ reading.Refused r → run_file_on q file room ≡ running.Refused r
-  run_refused {r} told = by_queue (λ q. run_file_on q file room ≡ running.Refused r) (law.run_refused ff_the file room r told) (law.run_refused ff_cl file room r told) q
+  pub run_refused : {r : Refusal} → read_file file ≡ Err r → run_file_on q file room ≡ Err r
+  run_refused {r} told = by_queue (λ q. run_file_on q file room ≡ Err r) (law.run_refused ff_the file room r told) (law.run_refused ff_cl file room r told) q
 
-  module _ {s : Sizes} {n : ℕ} (told : read_file file ≡ Accepted s n) where
+  module _ {s : Sizes} {n : ℕ} (told : read_file file ≡ Ok (s, n)) where
     -- nor what has too little room
-    pub run_without_room : room < trace_length n → run_file_on q file room ≡ running.Refused Room
+    pub run_without_room : room < trace_length n → run_file_on q file room ≡ Err Room
     run_without_room small =
-        by_queue (λ q. run_file_on q file room ≡ running.Refused Room) (law.run_without_room ff_the file room s n told small) (law.run_without_room ff_cl file room s n told small) q
+        by_queue (λ q. run_file_on q file room ≡ Err Room) (law.run_without_room ff_the file room s n told small) (law.run_without_room ff_cl file room s n told small) q
 
     -- all else is
-    pub run_with_room : trace_length n ≤ room → run_file_on q file room ≡ Ran (summary_in_on q file)
-    run_with_room fits = by_queue (λ q. run_file_on q file room ≡ Ran (summary_in_on q file)) (law.run_with_room ff_the file room s n told fits) (law.run_with_room ff_cl file room s n told fits) q
+    pub run_with_room : trace_length n ≤ room → run_file_on q file room ≡ Ok (summary_in_on q file)
+    run_with_room fits = by_queue (λ q. run_file_on q file room ≡ Ok (summary_in_on q file)) (law.run_with_room ff_the file room s n told fits) (law.run_with_room ff_cl file room s n told fits) q
 
   -- it is refused for its faults
-  pub refuses_faults : Refuses (run_has file room) (refusal_in_running (run_file_on q file room))
-  refuses_faults = by_queue (λ q. Refuses (run_has file room) (refusal_in_running (run_file_on q file room))) (runner_refuses_faults ff_the file room) (runner_refuses_faults ff_cl file room) q
+  pub refuses_faults : Refuses (run_has file room) (refusal_in (run_file_on q file room))
+  refuses_faults = by_queue (λ q. Refuses (run_has file room) (refusal_in (run_file_on q file room))) (runner_refuses_faults ff_the file room) (runner_refuses_faults ff_cl file room) q
 
   -- memory lags by the needed margin at most
   pub within_needed : RunWithinNeeded file (run_file_on q file room)
@@ -80,12 +79,12 @@ module _ (q : Queue) (file : List ℕ) (room : ℕ) where
 
 module _ (q : Queue) (file trace : List ℕ) where
   -- a refusal leaves the buffer as it was
-  pub untouched : {r : Refusal} → run_file_on q file (length trace) ≡ running.Refused r → trace_after_on q file trace ≡ trace
+  pub untouched : {r : Refusal} → run_file_on q file (length trace) ≡ Err r → trace_after_on q file trace ≡ trace
   untouched {r} =
-      by_queue (λ q. run_file_on q file (length trace) ≡ running.Refused r → trace_after_on q file trace ≡ trace) (refused_run_untouched ff_the file trace r) (refused_run_untouched ff_cl file trace r) q
+      by_queue (λ q. run_file_on q file (length trace) ≡ Err r → trace_after_on q file trace ≡ trace) (refused_run_untouched ff_the file trace r) (refused_run_untouched ff_cl file trace r) q
 
   -- the trace of an accepted file stands in a buffer that has room for it
-  pub trace_after_run : {s : Sizes} {n : ℕ} → read_file file ≡ Accepted s n → trace_fits n (length trace) ≡ true → trace_after_on q file trace ≡ trace_put (outcomes_in_on q file) trace
+  pub trace_after_run : {s : Sizes} {n : ℕ} → read_file file ≡ Ok (s, n) → trace_fits n (length trace) ≡ true → trace_after_on q file trace ≡ trace_put (outcomes_in_on q file) trace
   trace_after_run told fits =
       by_queue (λ q. trace_after_on q file trace ≡ trace_put (outcomes_in_on q file) trace) (law.trace_after_run ff_the file trace told fits) (law.trace_after_run ff_cl file trace told fits) q
 

@@ -9,6 +9,7 @@ use lib.Dec.{ltb}
 use lib.ListN.{get_or, length, replicate, take}
 use lib.Seq.{take-length, take-suc}
 use borrow.Author.Tests.{le-ltb}
+use Rattle.std.proofs.Common.{Ok}
 use Rattle.terms.specs.Kinds.{kind_of, operand_of}
 use Rattle.terms.specs.Lists.{largest}
 use Rattle.terms.specs.Tally.{counted, none_counted}
@@ -23,7 +24,7 @@ use Rattle.machine.specs.Obey.{obey}
 use Rattle.machine.proofs.Laws.InRange.{bounds}
 use Rattle.terms.specs.Sizes.{sizes_in_range}
 use Rattle.terms.specs.declared.outcome.Outcome.TheVariants.{Moved, Wait}
-use Rattle.schedule.specs.Types.{Drain, Entry, Machine, Passed, Sizes, Tally, ThiefStep}
+use Rattle.schedule.specs.Types.{Drain, Entry, Machine, Sizes, Tally, ThiefStep}
 use Rattle.schedule.specs.Entries.{check_entries, entry_to_obey}
 use Rattle.schedule.specs.Format.{entries_in, kinds_in, operands_in, sizes_in}
 use Rattle.schedule.specs.Run.{AnyArraysObeyed, NoEntryWaits, RunBySteps, ScheduleOfFile, after_steps, entries_of, hidden_of_steps, outcomes_of_steps}
@@ -90,7 +91,7 @@ module _ {M : Type 0} (b : Implementation M Entry) (proved : Proved b) where
 
 -- ── All entries of a file ───────────────────────────────────────────────────────────────────────────────────────────────────
 
-module _ (s : Sizes) (kinds operands : List ℕ) (parallel : length kinds ≡ length operands) (passed : check_entries s kinds operands ≡ Passed) where
+module _ (s : Sizes) (kinds operands : List ℕ) (parallel : length kinds ≡ length operands) (passed : check_entries s kinds operands ≡ Ok tt) where
   -- the entries at the first places have the kinds and the operands that stand there
   as_read : (n : ℕ) → n ≤ length kinds
       → (map kind_of (entries_up_to s kinds operands n) ≡ take n kinds) × (map operand_of (entries_up_to s kinds operands n) ≡ take n operands)

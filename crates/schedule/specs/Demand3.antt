@@ -1,5 +1,5 @@
 -- Demand 3 of a trace that was written: with enough margin, the answers in its bytes are those of the plain queue, and no task is lost or given twice. The claim itself, and the plain queue, are those of `claim`; what they know of FF-THE and of FF-CL is in `machine` and `cas`; a machine's own account is in `properties`. `run_on` promises it. It is said of any queue on its machine.
-use Rattle.std.specs.Prelude.{◌≡◌, true, cond, List, [], ◌∷◌, ◌++◌, map, ℕ}
+use Rattle.std.specs.Prelude.{◌≡◌, true, cond, List, [], ◌∷◌, ◌++◌, map, ℕ, Result, Ok}
 use Rattle.claim.specs.Calls.{answers_to}
 use Rattle.claim.specs.Implementation.{Implementation}
 use Rattle.claim.specs.Watch.{Event, events, watch_fresh}
@@ -10,7 +10,7 @@ use Rattle.properties.specs.ExactlyOnce.{ExactlyOnce}
 use Rattle.terms.specs.Lists.{concat_map, range}
 use Rattle.terms.specs.Outcome.{is_answer_number}
 use Rattle.terms.specs.Sizes.{enough_margin}
-use Rattle.schedule.specs.Types.{Entry, FfCl, FfThe, Queue, Ran, Running, Sizes, Summary}
+use Rattle.schedule.specs.Types.{Entry, FfCl, FfThe, Queue, Refusal, Sizes, Summary}
 use Rattle.schedule.specs.Format.{entries_in, sizes_in}
 use Rattle.schedule.specs.Run.{schedule_in}
 use Rattle.schedule.specs.Trace.{Line, line_in, line_of}
@@ -42,17 +42,17 @@ module _ {M : Type 0} (b : Implementation M Entry) where
     pub once : ExactlyOnce b s es
 
   -- a file that was run, with enough margin
-  abbrev pub RunLinearizesBy : List ℕ → List ℕ → Running → Type 0
+  abbrev pub RunLinearizesBy : List ℕ → List ℕ → Result Summary Refusal → Type 0
   RunLinearizesBy file trace answer =
-      (t : Summary) → answer ≡ Ran t → enough_margin (sizes_in file) ≡ true
+      (t : Summary) → answer ≡ Ok t → enough_margin (sizes_in file) ≡ true
       → TraceLinearizes (sizes_in file) (schedule_in file) (entries_in file) trace
 
 -- .. by FF-THE
-abbrev pub RunLinearizes : List ℕ → List ℕ → Running → Type 0
+abbrev pub RunLinearizes : List ℕ → List ℕ → Result Summary Refusal → Type 0
 RunLinearizes = RunLinearizesBy ff_the
 
 -- .. by the queue that is named
-abbrev pub RunLinearizesOn : Queue → List ℕ → List ℕ → Running → Type 0
+abbrev pub RunLinearizesOn : Queue → List ℕ → List ℕ → Result Summary Refusal → Type 0
 RunLinearizesOn FfThe = RunLinearizesBy ff_the
 RunLinearizesOn FfCl = RunLinearizesBy ff_cl
 

@@ -1,15 +1,13 @@
 -- Files at their edges, as one table over the definitions: the last line of "Rehearsals" but for its trace, the example of "The program's lines" byte by byte, every size at the ends of its range and just past them (4,096 entries are found in
 -- range, not read), every kind with operands that are allowed and that are not, all other kind bytes, files with several faults, which show the order of the checks, and parts that are no file's. `proofs/Edges.antt` proves one fact: every row holds.
-use Rattle.std.specs.Prelude.{Bool, true, false, ◌&&◌, List, [], ◌∷◌, ◌++◌, map, ℕ, ◌+◌, eqb, length, replicate, take}
-use Rattle.terms.specs.declared.kinds.Meaning.TheVariants as meaning
+use Rattle.std.specs.Prelude.{Bool, true, false, ◌&&◌, List, [], ◌∷◌, ◌++◌, map, ℕ, ◌+◌, eqb, length, replicate, take, Result, Ok, Err}
 use Rattle.terms.specs.Refusal.{refused_by}
 use Rattle.terms.specs.Kinds.{entry_of, kind_of, operand_of}
 use Rattle.terms.specs.Lists.{equal, range_from}
 use Rattle.terms.specs.Numbers.{is_no_entry}
 use Rattle.terms.specs.Sizes.{sized}
-use Rattle.schedule.specs.Types.{Accepted, Allowed, Check, Failed, Meaning, Passed, Reading, Short, Sizes}
+use Rattle.schedule.specs.Types.{Refusal, Short, Sizes}
 use Rattle.schedule.specs.Types.{BeginPut, BeginSteal, BeginTake, ClientStore, Drain, Entry, ThiefStep, WorkerStep}
-use Rattle.schedule.specs.declared.reader.Reading.TheVariants as reading
 use Rattle.number.specs.Number.{little_endian, word_bytes}
 use Rattle.schedule.specs.Format.{size_bytes, size_numbers, words_in}
 use Rattle.schedule.specs.Entries.{check_parts, entry_at, entry_to_obey}
@@ -41,31 +39,31 @@ pub data Row : Type 0 where
   -- a file that is cut by the answer that it is refused, whatever it is: no part of it is handed back
   cuts_nothing : (file : List ℕ) → Row
 
-abbrev pub is_read : Sizes → ℕ → Reading → Bool
-is_read s n (Accepted t entries) = equal (size_numbers s n) (size_numbers t entries)
-is_read s n (reading.Refused r) = false
+abbrev pub is_read : Sizes → ℕ → Result (Sizes × ℕ) Refusal → Bool
+is_read s n (Ok (t, entries)) = equal (size_numbers s n) (size_numbers t entries)
+is_read s n (Err r) = false
 
-abbrev pub is_not_read : ℕ → ℕ → Reading → Bool
-is_not_read number place (Accepted s entries) = false
-is_not_read number place (reading.Refused r) = refused_by r number place
+abbrev pub is_not_read : ℕ → ℕ → Result (Sizes × ℕ) Refusal → Bool
+is_not_read number place (Ok (s, entries)) = false
+is_not_read number place (Err r) = refused_by r number place
 
 abbrev pub is_same : Entry → Entry → Bool
 is_same e f = eqb (kind_of e) (kind_of f) && eqb (operand_of e) (operand_of f)
 
-abbrev pub is_entry : Entry → Meaning → Bool
-is_entry e (Allowed f) = is_same e f
-is_entry e (meaning.Refused r) = false
+abbrev pub is_entry : Entry → Result Entry Refusal → Bool
+is_entry e (Ok f) = is_same e f
+is_entry e (Err r) = false
 
-abbrev pub is_passed : Check → Bool
-is_passed Passed = true
-is_passed (Failed r) = false
+abbrev pub is_passed : Result Unit Refusal → Bool
+is_passed (Ok _) = true
+is_passed (Err r) = false
 
-abbrev pub is_failed : ℕ → ℕ → Check → Bool
-is_failed number place Passed = false
-is_failed number place (Failed r) = refused_by r number place
+abbrev pub is_failed : ℕ → ℕ → Result Unit Refusal → Bool
+is_failed number place (Ok _) = false
+is_failed number place (Err r) = refused_by r number place
 
 -- the parts of a file by a reading, and where they start
-abbrev pub are_parts : List ℕ → Reading → List ℕ → List ℕ → ℕ → ℕ → Bool
+abbrev pub are_parts : List ℕ → Result (Sizes × ℕ) Refusal → List ℕ → List ℕ → ℕ → ℕ → Bool
 are_parts file answer kinds operands kindsAt operandsAt =
     equal (kind_part file answer) kinds
     && equal (operand_part file answer) operands
@@ -85,8 +83,8 @@ holds (no_entry thieves kinds operands at number place) =
     is_no_entry number place found && is_same (ThiefStep 4294967295) (entry_to_obey found)
 holds (passes thieves kinds operands) = is_passed (check_parts (with_thieves thieves) kinds operands)
 holds (fails thieves kinds operands number place) = is_failed number place (check_parts (with_thieves thieves) kinds operands)
-holds (cuts_nothing file) = are_parts file (reading.Refused Short) [] [] 0 0
-holds (cuts file entries kinds operands kindsAt operandsAt) = are_parts file (Accepted example entries) kinds operands kindsAt operandsAt
+holds (cuts_nothing file) = are_parts file (Err Short) [] [] 0 0
+holds (cuts file entries kinds operands kindsAt operandsAt) = are_parts file (Ok (example, entries)) kinds operands kindsAt operandsAt
 
 -- ── Files ───────────────────────────────────────────────────────────────────────────────────────────────────────────────────
 

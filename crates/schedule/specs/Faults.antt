@@ -1,11 +1,9 @@
 -- What is refused, and for what. Renders 1 to 4, of "The numbers", one by one and without their order, and 8 for a run; the library `writer` has them for what is written. `Reader` and `Run` say which of several faults is told; here stands that what is told is a
 -- fault, that what has a fault is refused, and that a refusal leaves the lent buffer as it was. Kinds and operands are said a second time here, in other words; ranges and layout are those of `Check` and `Format`. Proved in `proofs/Faults.antt`. At the end stands that the first faulty entry is told, exactly when there is one.
-use Rattle.std.specs.Prelude.{◌≡◌, Bool, true, false, cond, not, ◌&&◌, ◌||◌, List, [], ◌∷◌, ℕ, ◌*◌, ◌<◌, eqb, leb, ltb, length, get_or}
+use Rattle.std.specs.Prelude.{◌≡◌, Bool, true, false, cond, not, ◌&&◌, ◌||◌, List, ℕ, ◌*◌, ◌<◌, eqb, leb, ltb, length, get_or, Result, Ok, Err}
 use Rattle.claim.specs.Implementation.{Implementation}
-use Rattle.terms.specs.Refusal.{Refuses, number_of, place_of}
-use Rattle.schedule.specs.Types.{Accepted, Check, Entry, Failed, Passed, Ran, Reading, Refusal, Running, Short, Sizes}
-use Rattle.schedule.specs.declared.reader.Reading.TheVariants as reading
-use Rattle.schedule.specs.declared.runner.Running.TheVariants as running
+use Rattle.terms.specs.Refusal.{Refuses, number_of, place_of, refusal_in}
+use Rattle.schedule.specs.Types.{Entry, Refusal, Short, Sizes}
 use Rattle.schedule.specs.Check.{sizes_kept}
 use Rattle.schedule.specs.Entries.{check_entries}
 use Rattle.schedule.specs.Format.{entries_in, file_length, kinds_in, operands_in, sizes_in, words_in}
@@ -45,26 +43,18 @@ file_has file = faults_of file false
 abbrev pub run_has : List ℕ → ℕ → ℕ → ℕ → Bool
 run_has file room = faults_of file (ltb room (trace_length (entries_in file)))
 
--- The refusal in each answer, if there is one. `read` and `run` promise that its number and place are those of a fault that there is, and that what is not refused has none (`Refuses`).
-
-abbrev pub refusal_in_reading : Reading → List Refusal
-refusal_in_reading (Accepted s entries) = []
-refusal_in_reading (reading.Refused r) = r ∷ []
-
-abbrev pub refusal_in_running : Running → List Refusal
-refusal_in_running (Ran t) = []
-refusal_in_running (running.Refused r) = r ∷ []
+-- `read` and `run` promise of the refusal in their answer that its number and place are those of a fault that there is, and that what is not refused has none (`Refuses`).
 
 -- the reader refuses for a fault that the file has, and accepts no file that has one; and so does whoever runs a file, by whichever queue
 abbrev pub ReaderRefusesFaults : Type 0
-ReaderRefusesFaults = (file : List ℕ) → Refuses (file_has file) (refusal_in_reading (read_file file))
+ReaderRefusesFaults = (file : List ℕ) → Refuses (file_has file) (refusal_in (read_file file))
 
 abbrev pub RunnerRefusesFaults : {M : Type 0} → Implementation M Entry → Type 0
-RunnerRefusesFaults b = (file : List ℕ) (room : ℕ) → Refuses (run_has file room) (refusal_in_running (run_file_by b file room))
+RunnerRefusesFaults b = (file : List ℕ) (room : ℕ) → Refuses (run_has file room) (refusal_in (run_file_by b file room))
 
 -- what is refused leaves the lent buffer as it was
 abbrev pub RefusedRunUntouched : {M : Type 0} → Implementation M Entry → Type 0
-RefusedRunUntouched b = (file trace : List ℕ) (r : Refusal) → run_file_by b file (length trace) ≡ running.Refused r → trace_after_by b file trace ≡ trace
+RefusedRunUntouched b = (file trace : List ℕ) (r : Refusal) → run_file_by b file (length trace) ≡ Err r → trace_after_by b file trace ≡ trace
 
 -- ── The first faulty entry ──────────────────────────────────────────────────────────────────────────────────────────────────
 
@@ -74,19 +64,19 @@ pub record FirstFault (s : Sizes) (kinds operands : List ℕ) (number place : �
   pub none_before : (other before : ℕ) → before < place → entry_has s kinds operands other before ≡ false
 
 -- A check tells the first faulty entry exactly when there is one. Renders the second sentence of request 3, in 02.
-pub record TellsFirstFault (s : Sizes) (kinds operands : List ℕ) (answer : Check) : Type 0 where
+pub record TellsFirstFault (s : Sizes) (kinds operands : List ℕ) (answer : Result Unit Refusal) : Type 0 where
   -- what it tells is the first faulty entry's number and place
-  pub told : (r : Refusal) → answer ≡ Failed r → FirstFault s kinds operands (number_of r) (place_of r)
+  pub told : (r : Refusal) → answer ≡ Err r → FirstFault s kinds operands (number_of r) (place_of r)
   -- the first faulty entry, where there is one, it tells
-  pub found : (number place : ℕ) → FirstFault s kinds operands number place → (r : Refusal) × ((answer ≡ Failed r) × ((number_of r ≡ number) × (place_of r ≡ place)))
+  pub found : (number place : ℕ) → FirstFault s kinds operands number place → (r : Refusal) × ((answer ≡ Err r) × ((number_of r ≡ number) × (place_of r ≡ place)))
   -- and what it passes has none
-  pub passed : answer ≡ Passed → (number place : ℕ) → entry_has s kinds operands number place ≡ false
+  pub passed : answer ≡ Ok tt → (number place : ℕ) → entry_has s kinds operands number place ≡ false
 
 -- so it is of two parallel arrays; proved in `proofs/FirstFault.antt`
 abbrev pub CheckTellsFirstFault : Type 0
 CheckTellsFirstFault = (s : Sizes) (kinds operands : List ℕ) → length operands ≡ length kinds → TellsFirstFault s kinds operands (check_entries s kinds operands)
 
 -- `check_entries` promises it of two parts that belong together, and to refuse others as SHORT
-pub record PartsTellFirstFault (s : Sizes) (kinds bytes : List ℕ) (answer : Check) : Type 0 where
+pub record PartsTellFirstFault (s : Sizes) (kinds bytes : List ℕ) (answer : Result Unit Refusal) : Type 0 where
   pub together : length bytes ≡ 4 * length kinds → TellsFirstFault s kinds (words_in bytes) answer
-  pub apart : (length bytes ≡ 4 * length kinds → ⊥) → answer ≡ Failed Short
+  pub apart : (length bytes ≡ 4 * length kinds → ⊥) → answer ≡ Err Short

@@ -1,6 +1,5 @@
 -- A file run, by any queue on its machine, and one step of a run. A name that ends in `By` is of any queue, and one that ends in `On` of the one that is named; the same name without these letters is of FF-THE. Renders "Order" and "Trace", of "The numbers", as far as they are about a run, 8 ROOM, the totals of "The program's lines", and of request 4, in 02, that each entry hands its number on.
-use Rattle.std.specs.Prelude.{◌≡◌, cond, false, List, [], ◌∷◌, map, ℕ, ◌<◌, ltb, length, get_or, replicate}
-use Rattle.terms.specs.declared.kinds.Meaning.TheVariants as meaning
+use Rattle.std.specs.Prelude.{◌≡◌, cond, false, List, [], ◌∷◌, map, ℕ, ◌<◌, ltb, length, get_or, replicate, Result, Ok, Err}
 use Rattle.terms.specs.declared.outcome.Outcome.TheVariants.{Moved, Wait}
 use Rattle.terms.specs.Kinds.{kind_of, operand_of}
 use Rattle.terms.specs.Tally.{counted, none_counted}
@@ -12,9 +11,7 @@ use Rattle.machine.specs.Linearizable.{ff_the}
 use Rattle.cas.specs.Linearizable.{ff_cl}
 use Rattle.machine.specs.Machine.{done, fresh}
 use Rattle.machine.specs.Obey.{obey}
-use Rattle.schedule.specs.Types.{Accepted, Entry, FfCl, FfThe, Machine, Outcome, Queue, Ran, Reading, Refusal, Room, Running, Sizes, Stepped, Summary, Tally}
-use Rattle.schedule.specs.declared.reader.Reading.TheVariants as reading
-use Rattle.schedule.specs.declared.runner.Running.TheVariants as running
+use Rattle.schedule.specs.Types.{Entry, FfCl, FfThe, Machine, Outcome, Queue, Refusal, Room, Sizes, Stepped, Summary, Tally}
 use Rattle.schedule.specs.Entries.{entry_at, entry_to_obey}
 use Rattle.schedule.specs.Format.{entries_in, kinds_in, operands_in, sizes_in}
 use Rattle.number.specs.Number.{overwritten}
@@ -75,18 +72,18 @@ trace_put os buffer = cond (trace_fits (length os) (length buffer)) (overwritten
 -- ── A run ───────────────────────────────────────────────────────────────────────────────────────────────────────────────────
 
 -- a new trace over what a buffer held, unless the file was refused
-abbrev pub trace_if : List ℕ → List ℕ → Running → List ℕ
-trace_if new trace (Ran t) = overwritten 0 new trace
-trace_if new trace (running.Refused r) = trace
+abbrev pub trace_if : List ℕ → List ℕ → Result Summary Refusal → List ℕ
+trace_if new trace (Ok t) = overwritten 0 new trace
+trace_if new trace (Err r) = trace
 
 module _ {M : Type 0} (b : Implementation M Entry) where
   -- the reader's refusals come first, then ROOM
-  abbrev pub running_by : List ℕ → ℕ → Reading → Running
-  running_by file room (reading.Refused r) = running.Refused r
-  running_by file room (Accepted s entries) = cond (ltb room (trace_length entries)) (running.Refused Room) (Ran (summary_in_by b file))
+  abbrev pub running_by : List ℕ → ℕ → Result (Sizes × ℕ) Refusal → Result Summary Refusal
+  running_by file room (Err r) = Err r
+  running_by file room (Ok (s, entries)) = cond (ltb room (trace_length entries)) (Err Room) (Ok (summary_in_by b file))
 
   -- the answer of running a file, with a trace buffer of so many bytes: the summary, or the refusal
-  abbrev pub run_file_by : List ℕ → ℕ → Running
+  abbrev pub run_file_by : List ℕ → ℕ → Result Summary Refusal
   run_file_by file room = running_by file room (read_file file)
 
   -- what the trace buffer holds afterwards: the trace and, beyond it, what it held; if refused, all that it held
@@ -113,7 +110,7 @@ summary_in = summary_in_by ff_the
 
 -- the answer of running a file, and what the trace buffer holds afterwards
 
-abbrev pub run_file : List ℕ → ℕ → Running
+abbrev pub run_file : List ℕ → ℕ → Result Summary Refusal
 run_file = run_file_by ff_the
 
 abbrev pub trace_after : List ℕ → List ℕ → List ℕ
@@ -137,7 +134,7 @@ abbrev pub summary_in_on : Queue → List ℕ → Summary
 summary_in_on FfThe = summary_in_by ff_the
 summary_in_on FfCl = summary_in_by ff_cl
 
-abbrev pub run_file_on : Queue → List ℕ → ℕ → Running
+abbrev pub run_file_on : Queue → List ℕ → ℕ → Result Summary Refusal
 run_file_on FfThe = run_file_by ff_the
 run_file_on FfCl = run_file_by ff_cl
 
@@ -157,12 +154,12 @@ RunBySteps =
 
 -- where no entry is allowed, every machine of FF-THE answers 7 and stays as it is
 abbrev pub NoEntryWaits : Type 0
-NoEntryWaits = (m : Machine) (r : Refusal) → obey m (entry_to_obey (meaning.Refused r)) ≡ done Wait m
+NoEntryWaits = (m : Machine) (r : Refusal) → obey m (entry_to_obey (Err r)) ≡ done Wait m
 
 -- sizes and arrays that are not checked: each place has its outcome, 7 where no entry is allowed, and 7 everywhere, with the number 0, if a size is out of range
 pub record AnyArrays {M : Type 0} (b : Implementation M Entry) (s : Sizes) (kinds operands : List ℕ) : Type 0 where
   pub each : length (outcomes_from_by b s kinds operands) ≡ length kinds
-  pub no_entry : (at : ℕ) (r : Refusal) → at < length kinds → entry_at s kinds operands at ≡ meaning.Refused r → get_or (outcomes_from_by b s kinds operands) at Moved ≡ Wait
+  pub no_entry : (at : ℕ) (r : Refusal) → at < length kinds → entry_at s kinds operands at ≡ Err r → get_or (outcomes_from_by b s kinds operands) at Moved ≡ Wait
   pub out_of_range : sizes_in_range s ≡ false → outcomes_from_by b s kinds operands ≡ replicate (length kinds) Wait
   pub nothing_hidden : sizes_in_range s ≡ false → (summary_from_by b s kinds operands).hidden ≡ 0
 
@@ -172,5 +169,5 @@ AnyArraysObeyed b = (s : Sizes) (kinds operands : List ℕ) → AnyArrays b s ki
 -- the entries of an accepted file are all of it: their kinds and operands are its arrays
 abbrev pub ScheduleOfFile : Type 0
 ScheduleOfFile =
-    (file : List ℕ) (s : Sizes) (n : ℕ) → read_file file ≡ Accepted s n
+    (file : List ℕ) (s : Sizes) (n : ℕ) → read_file file ≡ Ok (s, n)
     → (map kind_of (schedule_in file) ≡ kinds_in n file) × (map operand_of (schedule_in file) ≡ operands_in n file)

@@ -1,13 +1,12 @@
 -- Runs, as one table over the definitions: the example of "The program's lines", the last line of "Rehearsals" with its trace, M2 and M3 as traces, every outcome in the bytes of a trace, rooms one byte short, refusals in their order, parts that nobody has checked, how far memory lagged, and each outcome counted, also at the largest total. `proofs/Runs.antt` proves one fact: every row holds.
-use Rattle.std.specs.Prelude.{Bool, true, false, not, ◌&&◌, List, [], ◌∷◌, ◌++◌, map, ℕ, eqb, replicate}
+use Rattle.std.specs.Prelude.{Bool, true, false, not, ◌&&◌, List, [], ◌∷◌, ◌++◌, map, ℕ, eqb, replicate, Result, Ok, Err}
 use Rattle.terms.specs.declared.outcome.Outcome.TheVariants.{Moved, Place, Early, Wait, Stored, Task, Empty, Abort, Full, End}
 use Rattle.terms.specs.Lists.{equal}
 use Rattle.terms.specs.Outcome.{number_of}
 use Rattle.terms.specs.Tally.{counted}
 use Rattle.machine.specs.Machine.{fresh}
-use Rattle.schedule.specs.Types.{Outcome, Ran, Running, Sizes, Summary, Tally}
+use Rattle.schedule.specs.Types.{Outcome, Refusal, Sizes, Summary, Tally}
 use Rattle.schedule.specs.Types.{BeginPut, BeginSteal, BeginTake, ClientStore, Drain, Entry, ThiefStep, WorkerStep}
-use Rattle.schedule.specs.declared.runner.Running.TheVariants as running
 use Rattle.terms.specs.Sizes.{sized}
 use Rattle.terms.specs.Refusal.{refused_by}
 use Rattle.schedule.specs.Edges.{example_file, file_with}
@@ -41,13 +40,13 @@ totals given aborts waits = record { given = given; aborts = aborts; waits = wai
 abbrev pub tells : Summary → ℕ → ℕ → ℕ → ℕ → Bool
 tells t given aborts waits hidden = equal_totals t.tally (totals given aborts waits) && eqb t.hidden hidden
 
-abbrev pub is_run : ℕ → ℕ → ℕ → ℕ → Running → Bool
-is_run given aborts waits hidden (Ran t) = tells t given aborts waits hidden
-is_run given aborts waits hidden (running.Refused r) = false
+abbrev pub is_run : ℕ → ℕ → ℕ → ℕ → Result Summary Refusal → Bool
+is_run given aborts waits hidden (Ok t) = tells t given aborts waits hidden
+is_run given aborts waits hidden (Err r) = false
 
-abbrev pub is_not_run : ℕ → ℕ → Running → Bool
-is_not_run number place (Ran t) = false
-is_not_run number place (running.Refused r) = refused_by r number place
+abbrev pub is_not_run : ℕ → ℕ → Result Summary Refusal → Bool
+is_not_run number place (Ok t) = false
+is_not_run number place (Err r) = refused_by r number place
 
 -- a buffer before it is lent; no file, trace or sheet of a table has a byte 170
 abbrev pub before : ℕ → List ℕ

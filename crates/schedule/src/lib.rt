@@ -19,23 +19,23 @@
 // sizes and the lengths of a file's parts. Sizes, entries with their kinds, outcomes, refusals and totals are those of the
 // library `terms`. No public function asks anything of its caller. Reading order:
 //
-// - `check`: the answer of a check, and the check of the sizes;
+// - `check`: the check of the sizes;
 // - `layout`: the lengths of a file's parts, and of the longest trace;
 // - `entries`: the first faulty entry, and the entry to obey;
 // - `reader`: a file as a whole, and its two parts;
+// - `queue`: which queue a machine is the machine of;
 // - `runner`: one step, the entries of two parts, and a file run with its trace.
 #![tactic(auto)]
 
 mod check;
 mod entries;
 mod layout;
+mod queue;
 mod reader;
 mod runner;
 
-pub use check::{Check, check_ranges};
+pub use check::check_ranges;
 pub use entries::{check_entries, entry_at};
 pub use layout::{ENTRY_BYTES, LONGEST_TRACE, SIZES_BYTES};
-pub use reader::{Reading, kind_part, operand_part, read, refusal_of};
-pub use runner::{
-    Queue, Running, Stepped, Summary, obey_entries, obey_entries_on, run, run_on, step,
-};
+pub use reader::{kind_part, operand_part, read, refusal_of};
+pub use runner::{Queue, Stepped, Summary, obey_entries, obey_entries_on, run, run_on, step};

@@ -1,24 +1,15 @@
 ghost use Rattle.std.specs.Prelude.{◌≡◌, ◌+◌, ◌≤◌, leb, length};
-ghost use Rattle.terms.specs.Refusal.{Refuses};
+ghost use Rattle.terms.specs.Refusal.{Refuses, refusal_in};
 ghost use Rattle.schedule.specs.Check.{first};
-ghost use Rattle.schedule.specs.Faults.{file_has, refusal_in_reading};
+ghost use Rattle.schedule.specs.Faults.{file_has};
 ghost use Rattle.schedule.specs.Format.{sizes_in};
 ghost use Rattle.schedule.specs.Reader.{behind, kind_part, kind_start, operand_part, operand_start, read_file, reading_of, refusal_of, size_checks};
 
-use crate::check::{Check, check_ranges};
+use crate::check::check_ranges;
 use crate::entries::check_entries;
 use crate::layout::{ENTRY_BYTES, SIZES_BYTES};
 use number::word_at;
 use terms::{Refusal, Sizes};
-
-// The reader's answer.
-#[derive(Clone, Copy)]
-pub enum Reading {
-    // The file is a schedule: its first six sizes, and how many entries it has.
-    Accepted(Sizes, usize),
-    // It is none.
-    Refused(Refusal),
-}
 
 // The first six sizes, each decoded once.
 fn sizes_in(file: &[u8]) -> Sizes
@@ -36,49 +27,41 @@ fn sizes_in(file: &[u8]) -> Sizes
 }
 
 // Decodes the sizes, and checks them and the length that they ask for: all that is looked at before the entries, of which the answer says nothing yet.
-fn read_sizes(file: &[u8]) -> Reading
+fn read_sizes(file: &[u8]) -> Result<(Sizes, usize), Refusal>
     ensures { result ≡ reading_of file.now (first (size_checks file.now)) }
 {
     if file.len() < SIZES_BYTES {
-        return Reading::Refused(Refusal::Short);
+        return Err(Refusal::Short);
     }
     let sizes = sizes_in(file);
     let entries = word_at(file, 24) as usize;
-    let ranges = check_ranges(sizes, entries);
-    if let Check::Failed(refusal) = ranges {
-        return Reading::Refused(refusal);
-    }
+    check_ranges(sizes, entries)?;
     if file.len() != SIZES_BYTES + ENTRY_BYTES * entries {
-        return Reading::Refused(Refusal::Short);
+        return Err(Refusal::Short);
     }
-    Reading::Accepted(sizes, entries)
+    Ok((sizes, entries))
 }
 
-// Reads a schedule file: its sizes, and then its entries by these.
-pub fn read(file: &[u8]) -> Reading
+// Reads a schedule file, its sizes and then its entries by these: the first six sizes, and how many entries it has.
+pub fn read(file: &[u8]) -> Result<(Sizes, usize), Refusal>
     ensures value { result ≡ read_file file.now }
-    ensures refuses { Refuses (file_has file.now) (refusal_in_reading result) }
+    ensures refuses { Refuses (file_has file.now) (refusal_in result) }
 {
     let reading = read_sizes(file);
-    let Reading::Accepted(sizes, _) = reading else {
-        return reading;
-    };
+    let (sizes, _) = reading?;
     let kinds = kind_part(file, reading);
     let operands = operand_part(file, reading);
-    let checked = check_entries(sizes, kinds, operands);
-    match checked {
-        Check::Passed => reading,
-        Check::Failed(refusal) => Reading::Refused(refusal),
-    }
+    check_entries(sizes, kinds, operands)?;
+    reading
 }
 
 // Why nothing came of a file, for whoever knows that nothing did: its own refusal or, of an accepted one, ROOM.
-pub fn refusal_of(reading: Reading) -> Refusal
+pub fn refusal_of(reading: Result<(Sizes, usize), Refusal>) -> Refusal
     ensures { result ≡ refusal_of reading }
 {
     match reading {
-        Reading::Accepted(_, _) => Refusal::Room,
-        Reading::Refused(refusal) => refusal,
+        Ok(_) => Refusal::Room,
+        Err(refusal) => refusal,
     }
 }
 
@@ -86,37 +69,30 @@ pub fn refusal_of(reading: Reading) -> Refusal
 fn holds_kinds(bytes: usize, entries: usize) -> bool
     ensures { result ≡ leb (28 + entries) bytes }
 {
-    if bytes < SIZES_BYTES {
-        return false;
-    }
-    entries <= bytes - SIZES_BYTES
+    bytes >= SIZES_BYTES && entries <= bytes - SIZES_BYTES
 }
 
 // The part of a file that its kinds are, one byte each, as the answer of `read` says; an empty part, if the file is refused, or the answer is another file's and asks for
 // more kinds than this one has bytes behind its sizes.
-pub fn kind_part(file: &[u8], reading: Reading) -> &[u8]
+pub fn kind_part(file: &[u8], reading: Result<(Sizes, usize), Refusal>) -> &[u8]
     ensures result_value { result.now ≡ kind_part file.now reading }
     ensures ref_ptr_value { result.ref_ptr ≡ behind (kind_start file.now reading) file.entry.ref_ptr }
 {
-    let Reading::Accepted(_, entries) = reading else {
-        return &file[..0];
-    };
-    if !holds_kinds(file.len(), entries) {
-        return &file[..0];
+    match reading {
+        Ok((_, entries)) if holds_kinds(file.len(), entries) => {
+            &file[SIZES_BYTES..SIZES_BYTES + entries]
+        }
+        _ => &file[..0],
     }
-    &file[SIZES_BYTES..SIZES_BYTES + entries]
 }
 
 // The part of a file that its operands are, four bytes each, to the end, as the answer of `read` says; an empty part, likewise.
-pub fn operand_part(file: &[u8], reading: Reading) -> &[u8]
+pub fn operand_part(file: &[u8], reading: Result<(Sizes, usize), Refusal>) -> &[u8]
     ensures result_value { result.now ≡ operand_part file.now reading }
     ensures ref_ptr_value { result.ref_ptr ≡ behind (operand_start file.now reading) file.entry.ref_ptr }
 {
-    let Reading::Accepted(_, entries) = reading else {
-        return &file[..0];
-    };
-    if !holds_kinds(file.len(), entries) {
-        return &file[..0];
+    match reading {
+        Ok((_, entries)) if holds_kinds(file.len(), entries) => &file[SIZES_BYTES + entries..],
+        _ => &file[..0],
     }
-    &file[SIZES_BYTES + entries..]
 }

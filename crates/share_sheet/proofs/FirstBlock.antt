@@ -1,4 +1,5 @@
 -- BLOCK said in two ways is the same, and the check of the blocks tells the first begin put that has it.
+use Rattle.std.proofs.Common.{Ok, Err}
 use mathlib.Core.Path.{◌≡◌, refl, ap, sym, ◌∙◌}
 use mathlib.Core.Bool.{Bool, true, false, and-false, and-true, cond, not, ◌&&◌, ◌||◌}
 use mathlib.Core.List.{List, [], ◌∷◌, ◌++◌, append-nil}
@@ -17,7 +18,7 @@ use Rattle.terms.proofs.Laws.Sums.{adds_occurrences, range_suc}
 use Rattle.terms.proofs.Laws.Tests.{eqb_comm}
 use Rattle.properties.specs.ExactlyOnce.{number_put}
 use Rattle.schedule.proofs.Laws.Check.{fail_if_failed, fail_if_passed, range_failed}
-use Rattle.share_sheet.specs.Types.{BeginPut, BeginSteal, BeginTake, Block, ClientStore, Drain, Entry, Failed, Passed, Refusal, ThiefStep, WorkerStep}
+use Rattle.share_sheet.specs.Types.{BeginPut, BeginSteal, BeginTake, Block, ClientStore, Drain, Entry, Refusal, ThiefStep, WorkerStep}
 use Rattle.share_sheet.specs.Faults.{CheckTellsFirstBlock, block_has, put_before, puts_at}
 use Rattle.share_sheet.specs.Sheet.{check_blocks, puts_up_to, wrong_block, wrong_put}
 use Rattle.share_sheet.proofs.Laws.Blocks.{check, puts_more, right_at}
@@ -92,7 +93,7 @@ said_twice count es at = go (ltb at (length es)) refl
 pub check_tells_first_block : CheckTellsFirstBlock
 check_tells_first_block count es = record { told = λ r e. (first r e).0; here = λ r e. (first r e).1; none_before = λ r e. (first r e).2; passed = passed }
   where
-    first : (r : Refusal) → check_blocks count es ≡ Failed r
+    first : (r : Refusal) → check_blocks count es ≡ Err r
         → (r ≡ Block (place_of r)) × (block_has count es (place_of r) ≡ true) × ((before : ℕ) → before < place_of r → block_has count es before ≡ false)
     first r e =
         let found = range_failed (check count es) (length es) r e in
@@ -103,7 +104,7 @@ check_tells_first_block count es = record { told = λ r e. (first r e).0; here =
           λ before earlier. sym (said_twice count es before) ∙ fail_if_passed (wrong_block count es before) (Block before) (found.1.1.1 before (omega (arith, place))),
         )
 
-    passed : check_blocks count es ≡ Passed → (place : ℕ) → block_has count es place ≡ false
+    passed : check_blocks count es ≡ Ok tt → (place : ℕ) → block_has count es place ≡ false
     passed e place = sym (said_twice count es place) ∙ go (ltb place (length es)) refl
       where
         go : (inside : Bool) → ltb place (length es) ≡ inside → wrong_block count es place ≡ false

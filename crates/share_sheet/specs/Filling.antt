@@ -1,10 +1,34 @@
 -- What the functions that check blocks and fill a sheet promise each other. Nothing here is of the papers: `Sheet` says what a sheet is; that it is filled so is proved in `proofs/Laws`.
-use Rattle.std.specs.Prelude.{◌≡◌, Bool, true, false, cond, not, ◌||◌, List, [], ◌∷◌, ℕ, ◌-◌, ◌≤◌, ◌<◌, eqb, length, get_or, set}
+use Rattle.std.specs.Prelude.{◌≡◌, Bool, true, false, cond, not, ◌||◌, List, [], ◌∷◌, ℕ, ◌-◌, ◌≤◌, ◌<◌, eqb, length, get_or, set, Result, Ok, Err}
 use Rattle.terms.specs.Kinds.{party_number}
 use Rattle.terms.specs.Sizes.{within}
 use Rattle.schedule.specs.Trace.{line_in, line_of, trace_length}
-use Rattle.share_sheet.specs.Types.{Drain, Entry, Moved, Outcome}
+use Rattle.schedule.specs.Format.{words_in}
+use Rattle.schedule.specs.Reader.{read_file}
+use Rattle.schedule.specs.Run.{entries_of, outcomes_from, outcomes_in, schedule_in}
+use Rattle.share_sheet.specs.Types.{Accepted, Drain, Entry, Moved, Outcome, Refusal}
 use Rattle.share_sheet.specs.Sheet.{gives}
+
+-- ── An accepted file ────────────────────────────────────────────────────────────────────────────────────────────────────────
+
+-- its entries, and their outcomes
+
+abbrev pub entries : Accepted → List Entry
+entries a = entries_of a.sizes a.kinds.now (words_in a.operands.now)
+
+abbrev pub outcomes : Accepted → List Outcome
+outcomes a = outcomes_from a.sizes a.kinds.now (words_in a.operands.now)
+
+-- it is the file with these bytes
+pub record AcceptedFrom (file : List ℕ) (a : Accepted) : Type 0 where
+  pub read : read_file file ≡ Ok (a.sizes, length a.kinds.now)
+  pub same_entries : entries a ≡ schedule_in file
+  pub same_outcomes : outcomes a ≡ outcomes_in file
+
+-- what reading the file with these bytes hands on
+abbrev pub ReadAs : List ℕ → Result Accepted Refusal → Type 0
+ReadAs file (Ok a) = AcceptedFrom file a
+ReadAs file (Err r) = read_file file ≡ Err r
 
 -- ── Which blocks are used ───────────────────────────────────────────────────────────────────────────────────────────────────
 

@@ -1,5 +1,5 @@
 -- What is true of every sheet that is written, by demand 3. Renders, of request 2 in 02, the sentence that each stored block has one party at most and that every TASK in the trace stands in the sheet. `share_sheet` promises it.
-use Rattle.std.specs.Prelude.{◌≡◌, true, List, ℕ, ◌+◌, ◌<◌, length, get_or, take}
+use Rattle.std.specs.Prelude.{◌≡◌, true, List, ℕ, ◌+◌, ◌<◌, length, get_or, take, Result, Ok}
 use Rattle.terms.specs.Kinds.{party_number}
 use Rattle.terms.specs.Lists.{occurrences}
 use Rattle.terms.specs.Sizes.{within}
@@ -8,7 +8,7 @@ use Rattle.properties.specs.ExactlyOnce.{stored}
 use Rattle.schedule.specs.Format.{decode, entries_in, sizes_in}
 use Rattle.schedule.specs.Run.{outcomes_in, schedule_in}
 use Rattle.schedule.specs.Trace.{line_in, trace_of}
-use Rattle.share_sheet.specs.Types.{Drain, Sheet, Written}
+use Rattle.share_sheet.specs.Types.{Drain, Refusal}
 use Rattle.share_sheet.specs.Sheet.{Share, sheet_after, make_sheet, sheet_layout}
 
 -- the trace of the file's run has TASK with this number at this entry
@@ -40,8 +40,8 @@ pub record SheetFacts (file : List ℕ) (count : ℕ) (sheet : List ℕ) : Type 
       → occurrences block (stored ff_the (sizes_in file) (take (share_in count sheet block).entry (schedule_in file))) ≡ 1
 
 -- so it is wherever the answer is that a sheet was written
-abbrev pub SheetTells : List ℕ → ℕ → List ℕ → Sheet → Type 0
-SheetTells file count sheet answer = (n : ℕ) → answer ≡ Written n → SheetFacts file count sheet
+abbrev pub SheetTells : List ℕ → ℕ → List ℕ → Result ℕ Refusal → Type 0
+SheetTells file count sheet answer = (n : ℕ) → answer ≡ Ok n → SheetFacts file count sheet
 
 -- Proved in `proofs/Given.antt`.
 abbrev pub EverySheetTells : Type 0

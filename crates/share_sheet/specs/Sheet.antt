@@ -1,5 +1,5 @@
 -- The share sheet of a design: which party planned which block. Renders request 2, in 02. A sheet says of each block what the run's outcomes say of it; that no two entries answer TASK with the same block is a theorem (`Given`).
-use Rattle.std.specs.Prelude.{◌≡◌, Bool, false, cond, not, ◌&&◌, ◌||◌, List, [], ◌∷◌, ◌++◌, map, ℕ, ◌+◌, ◌*◌, eqb, ltb, length, get_or, take}
+use Rattle.std.specs.Prelude.{◌≡◌, Bool, false, cond, not, ◌&&◌, ◌||◌, List, [], ◌∷◌, ◌++◌, map, ℕ, ◌+◌, ◌*◌, eqb, ltb, length, get_or, take, Result, Ok, Err}
 use Rattle.terms.specs.Kinds.{party_number}
 use Rattle.terms.specs.Lists.{concat_map, occurrences, range, range_from}
 use Rattle.terms.specs.Outcome.{number_of, value_of}
@@ -10,8 +10,7 @@ use Rattle.schedule.specs.Check.{fail_if, first}
 use Rattle.schedule.specs.Format.{arrays, encode, sizes_in}
 use Rattle.schedule.specs.Reader.{reading_checks}
 use Rattle.schedule.specs.Run.{outcomes_in, schedule_in}
-use Rattle.share_sheet.specs.Types.{BeginPut, BeginSteal, BeginTake, Block, Check, ClientStore, Drain, Entry, Failed, Margin, Moved, Outcome, Passed, Room, Sheet, Size, Sizes, ThiefStep, WorkerStep, Written}
-use Rattle.share_sheet.specs.declared.sheet.Sheet.TheVariants as sheet
+use Rattle.share_sheet.specs.Types.{BeginPut, BeginSteal, BeginTake, Block, ClientStore, Drain, Entry, Margin, Moved, Outcome, Room, Size, Sizes, ThiefStep, WorkerStep, Refusal}
 
 -- ── What a sheet says of a block ────────────────────────────────────────────────────────────────────────────────────────────
 
@@ -84,11 +83,11 @@ abbrev pub wrong_block : ℕ → List Entry → ℕ → Bool
 wrong_block count es at = wrong_put count (puts_up_to at es) (get_or es at Drain)
 
 -- all begin puts: the first wrong one decides
-abbrev pub check_blocks : ℕ → List Entry → Check
+abbrev pub check_blocks : ℕ → List Entry → Result Unit Refusal
 check_blocks count es = first (map (λ at. fail_if (wrong_block count es at) (Block at)) (range (length es)))
 
 -- the checks of a schedule that was read, in their order; 7, the count's place for SIZE, follows those of a file's seven sizes
-abbrev pub checks_after_reading : Sizes → List Entry → ℕ → ℕ → List Check
+abbrev pub checks_after_reading : Sizes → List Entry → ℕ → ℕ → List (Result Unit Refusal)
 checks_after_reading s es count room =
     fail_if (not (within 1 255 count)) (Size 7)
     ∷ fail_if (not (enough_margin s)) Margin
@@ -97,22 +96,22 @@ checks_after_reading s es count room =
     ∷ []
 
 -- all checks, in their order: the reader's come first
-abbrev pub sheet_checks : List ℕ → ℕ → ℕ → List Check
+abbrev pub sheet_checks : List ℕ → ℕ → ℕ → List (Result Unit Refusal)
 sheet_checks file count room = reading_checks file ++ checks_after_reading (sizes_in file) (schedule_in file) count room
 
 -- ── The answer, and the lent buffer ─────────────────────────────────────────────────────────────────────────────────────────
 
-abbrev pub answer_by : ℕ → Check → Sheet
-answer_by count Passed = Written (sheet_length count)
-answer_by count (Failed r) = sheet.Refused r
+abbrev pub answer_by : ℕ → Result Unit Refusal → Result ℕ Refusal
+answer_by count (Ok _) = Ok (sheet_length count)
+answer_by count (Err r) = Err r
 
 -- the answer for a file, a count and a buffer of so many bytes: how many bytes the sheet has, or the refusal
-abbrev pub make_sheet : List ℕ → ℕ → ℕ → Sheet
+abbrev pub make_sheet : List ℕ → ℕ → ℕ → Result ℕ Refusal
 make_sheet file count room = answer_by count (first (sheet_checks file count room))
 
-abbrev pub buffer_if : List ℕ → List ℕ → Sheet → List ℕ
-buffer_if new buffer (Written n) = overwritten 0 new buffer
-buffer_if new buffer (sheet.Refused r) = buffer
+abbrev pub buffer_if : List ℕ → List ℕ → Result ℕ Refusal → List ℕ
+buffer_if new buffer (Ok n) = overwritten 0 new buffer
+buffer_if new buffer (Err r) = buffer
 
 -- what the buffer holds afterwards: the sheet and, beyond it, what it held; if refused, all that it held
 abbrev pub sheet_after : List ℕ → ℕ → List ℕ → List ℕ

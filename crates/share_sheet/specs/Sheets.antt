@@ -1,12 +1,11 @@
 -- Share sheets, as one table over the definitions: a design with blocks for every party and for none, sheets at the edges of count and room, and what is refused, with number and place, in the order of the checks. `proofs/Sheets.antt` proves one fact: every row holds.
-use Rattle.std.specs.Prelude.{Bool, false, ◌&&◌, List, [], ◌∷◌, ◌++◌, ℕ, eqb, replicate, take}
+use Rattle.std.specs.Prelude.{Bool, false, ◌&&◌, List, [], ◌∷◌, ◌++◌, ℕ, eqb, replicate, take, Result, Ok, Err}
 use Rattle.terms.specs.Lists.{equal}
 use Rattle.terms.specs.Refusal.{refused_by}
 use Rattle.terms.specs.Sizes.{sized}
 use Rattle.schedule.specs.Edges.{file_with}
 use Rattle.schedule.specs.Runs.{before, drains, file, put, steal, take as takes}
-use Rattle.share_sheet.specs.Types.{BeginPut, BeginTake, ClientStore, Drain, Entry, Sheet, Sizes, ThiefStep, WorkerStep, Written}
-use Rattle.share_sheet.specs.declared.sheet.Sheet.TheVariants as sheet
+use Rattle.share_sheet.specs.Types.{BeginPut, BeginTake, ClientStore, Drain, Entry, Sizes, ThiefStep, WorkerStep, Refusal}
 use Rattle.share_sheet.specs.Sheet.{sheet_after, make_sheet}
 
 -- ── Rows ────────────────────────────────────────────────────────────────────────────────────────────────────────────────────
@@ -17,13 +16,13 @@ pub data Row : Type 0 where
   -- one of which no sheet is made, with number and place; the buffer, of so many bytes, holds what it held
   declines : (file : List ℕ) (count room number place : ℕ) → Row
 
-abbrev pub is_written : ℕ → Sheet → Bool
-is_written bytes (Written n) = eqb n bytes
-is_written bytes (sheet.Refused r) = false
+abbrev pub is_written : ℕ → Result ℕ Refusal → Bool
+is_written bytes (Ok n) = eqb n bytes
+is_written bytes (Err r) = false
 
-abbrev pub is_not_written : ℕ → ℕ → Sheet → Bool
-is_not_written number place (Written n) = false
-is_not_written number place (sheet.Refused r) = refused_by r number place
+abbrev pub is_not_written : ℕ → ℕ → Result ℕ Refusal → Bool
+is_not_written number place (Ok n) = false
+is_not_written number place (Err r) = refused_by r number place
 
 abbrev pub holds : Row → Bool
 holds (writes file count room bytes after) = is_written bytes (make_sheet file count room) && equal (sheet_after file count (before room)) after

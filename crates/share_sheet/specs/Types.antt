@@ -6,9 +6,4 @@ pub use Rattle.terms.specs.declared.outcome.Outcome.TheVariants.{Moved, Place, E
 pub use Rattle.terms.specs.declared.refusal.Refusal.{Refusal}
 pub use Rattle.terms.specs.declared.refusal.Refusal.TheVariants.{Size, Room, Margin, Block}
 pub use Rattle.terms.specs.declared.sizes.Sizes.{Sizes}
-pub use Rattle.schedule.specs.declared.check.Check.{Check}
-pub use Rattle.schedule.specs.declared.check.Check.TheVariants.{Passed, Failed}
-pub use Rattle.schedule.specs.declared.reader.Reading.{Reading}
-pub use Rattle.schedule.specs.declared.reader.Reading.TheVariants.{Accepted}
-pub use Rattle.share_sheet.specs.declared.sheet.Sheet.{Sheet}
-pub use Rattle.share_sheet.specs.declared.sheet.Sheet.TheVariants.{Written}
+pub use Rattle.share_sheet.specs.declared.accepted.Accepted.{Accepted}

@@ -11,13 +11,15 @@
 // rule is broken and where, and none of the lent memory is touched. Of every other schedule no two entries claim one place of the sheet: its
 // promise says so, by demand 3 (`specs/Given.antt`). The schedule is run once, into a trace of its own. Reading order:
 //
+// - `accepted`: a file that was read;
 // - `blocks`: the first begin put of what is no block, or of a block that is used;
 // - `shares`: what a trace says of each block;
 // - `sheet`: the sheet as a whole.
 #![tactic(auto)]
 
+mod accepted;
 mod blocks;
 mod shares;
 mod sheet;
 
-pub use sheet::{Sheet, share_sheet};
+pub use sheet::share_sheet;

@@ -2,7 +2,7 @@
 use Rattle.std.specs.Prelude.{Bool, true, false, not, List, [], ◌∷◌, ◌++◌, map, ℕ, eqb, ℤ, pos, negsuc, length, replicate}
 use Rattle.terms.specs.Lists.{equal}
 use Rattle.terms.specs.Sizes.{sized}
-use Rattle.stores.specs.Types.{APut, ATake, BeginPut, BeginSteal, BeginTake, Client, ClientStore, Drain, Index, Look, Nobody, Nothing, One, Slot, Spacing, Store, StoreBuffer, Tail, TheClient, TheThief, TheWorker, ThiefStep, WorkerStep}
+use Rattle.stores.specs.Types.{APut, ATake, BeginPut, BeginSteal, BeginTake, Client, ClientStore, Drain, Index, Look, Nobody, None, Some, Slot, Spacing, Store, StoreBuffer, Tail, TheClient, TheThief, TheWorker, ThiefStep, WorkerStep}
 use Rattle.stores.specs.Index.{above_by, below_by_more, eq_z, index_in_range, next_or_same, previous_or_same, slot_index_in_range, slot_of}
 use Rattle.stores.specs.Lock.{is_nobody}
 use Rattle.stores.specs.StoreBuffer.{client_store, drop_oldest_or_same, newest_tail, pending, push_in_range, push_lowers_tail, push_or_same, pushed_or_same, scan, slot_after, slot_store, store_in_range, tail_store, take_stores}
@@ -19,14 +19,14 @@ holding n = record { stores = replicate 64 client_store; count = n }
 
 -- .. after a tail store of 1
 abbrev pub tail_made : ℕ → StoreBuffer
-tail_made n = pushed_or_same (One APut (Tail (index (pos 1)))) (holding n)
+tail_made n = pushed_or_same (Some (APut, Tail (index (pos 1)))) (holding n)
 
 abbrev pub counting : ℕ → Bool → Spacing
 counting n b = record { count = n; begun = b }
 
 -- after one more client store
 abbrev pub client_stored : Spacing → Spacing
-client_stored s = counted_in_or_same (One TheClient Client) s
+client_stored s = counted_in_or_same (Some (TheClient, Client)) s
 
 -- −1 to 2,147,483,648, a slot's from 0
 abbrev pub ranges : List Bool
@@ -41,12 +41,12 @@ ranges =
     ∷ store_in_range (Slot 1 (index (pos 0)))
     ∷ store_in_range (Slot 1 (index (pos 2147483648)))
     ∷ not (store_in_range (Slot 1 (index (pos 2147483649))))
-    ∷ push_in_range Nothing
-    ∷ push_in_range (One ATake (Tail (index (negsuc 0))))
-    ∷ not (push_in_range (One ATake (Tail (index (negsuc 1)))))
-    ∷ push_in_range (One APut (Slot 1 (index (pos 0))))
-    ∷ not (push_in_range (One APut (Slot 1 (index (negsuc 0)))))
-    ∷ push_in_range (One TheClient Client)
+    ∷ push_in_range None
+    ∷ push_in_range (Some (ATake, Tail (index (negsuc 0))))
+    ∷ not (push_in_range (Some (ATake, Tail (index (negsuc 1)))))
+    ∷ push_in_range (Some (APut, Slot 1 (index (pos 0))))
+    ∷ not (push_in_range (Some (APut, Slot 1 (index (negsuc 0)))))
+    ∷ push_in_range (Some (TheClient, Client))
     ∷ spacing_in_range (counting 4096 true)
     ∷ not (spacing_in_range (counting 4097 true))
     ∷ []
@@ -95,7 +95,7 @@ buffers =
     ∷ eq_z (newest_tail (index (pos 9)) (tail_made 64)).at (pos 9)
     ∷ eq_z (newest_tail (index (pos 9)) (drop_oldest_or_same (tail_made 1))).at (pos 1)
     ∷ eq_z (newest_tail (index (pos 9)) (drop_oldest_or_same (tail_made 0))).at (pos 9)
-    ∷ eqb (pushed_or_same Nothing (holding 3)).count 3
+    ∷ eqb (pushed_or_same None (holding 3)).count 3
     ∷ eqb (drop_oldest_or_same (holding 0)).count 0
     ∷ eqb (length (drop_oldest_or_same (holding 0)).stores) 64
     ∷ eqb (drop_oldest_or_same (holding 1)).count 0
@@ -138,12 +138,12 @@ lags =
     ∷ eq_z (scan (index (pos 5)) (holding_tails 2 (pos 4 ∷ pos 3 ∷ []))).tail.at (pos 3)
     ∷ (scan (index (negsuc 1)) (holding_tails 1 (negsuc 0 ∷ negsuc 1 ∷ []))).ranged
     ∷ not (scan (index (pos 5)) (holding_tails 2 (negsuc 1 ∷ pos 0 ∷ []))).ranged
-    ∷ push_lowers_tail (index (pos 5)) (One ATake (Tail (index (pos 4))))
-    ∷ push_lowers_tail (index (pos 5)) (One APut (Tail (index (pos 4))))
-    ∷ not (push_lowers_tail (index (pos 5)) (One APut (Tail (index (pos 6)))))
-    ∷ not (push_lowers_tail (index (pos 5)) (One ATake (Tail (index (pos 6)))))
-    ∷ not (push_lowers_tail (index (pos 5)) (One APut (Slot 1 (index (pos 4)))))
-    ∷ not (push_lowers_tail (index (pos 5)) Nothing)
+    ∷ push_lowers_tail (index (pos 5)) (Some (ATake, Tail (index (pos 4))))
+    ∷ push_lowers_tail (index (pos 5)) (Some (APut, Tail (index (pos 4))))
+    ∷ not (push_lowers_tail (index (pos 5)) (Some (APut, Tail (index (pos 6)))))
+    ∷ not (push_lowers_tail (index (pos 5)) (Some (ATake, Tail (index (pos 6)))))
+    ∷ not (push_lowers_tail (index (pos 5)) (Some (APut, Slot 1 (index (pos 4)))))
+    ∷ not (push_lowers_tail (index (pos 5)) None)
     ∷ []
 
 -- stores count once a take has begun, and the first take is free; a put's count as the client's do, a take's do not
@@ -164,20 +164,20 @@ spacings =
     ∷ not (too_early (counting 63 true) 63)
     ∷ not (too_early (counting 4096 true) 63)
     ∷ too_early (counting 63 true) 64
-    ∷ eqb (counted_in_or_same Nothing (counting 1 true)).count 1
+    ∷ eqb (counted_in_or_same None (counting 1 true)).count 1
     ∷ eqb (client_stored (counting 1 true)).count 2
-    ∷ eqb (counted_in_or_same (One APut (Slot 1 (index (pos 0)))) (counting 1 true)).count 2
-    ∷ eqb (counted_in_or_same (One APut (Tail (index (pos 1)))) (counting 1 true)).count 2
-    ∷ eqb (counted_in_or_same (One ATake (Tail (index (pos 1)))) (counting 1 true)).count 1
+    ∷ eqb (counted_in_or_same (Some (APut, Slot 1 (index (pos 0)))) (counting 1 true)).count 2
+    ∷ eqb (counted_in_or_same (Some (APut, Tail (index (pos 1)))) (counting 1 true)).count 2
+    ∷ eqb (counted_in_or_same (Some (ATake, Tail (index (pos 1)))) (counting 1 true)).count 1
     ∷ []
 
 -- whatever the entry, the store that it has made counts, but where it begins a take: then the count begins anew
 abbrev pub spacings_after : List Bool
 spacings_after =
-    map (λ e. eqb (spacing_after e (One TheClient Client) (counting 5 true)).count 6) (Drain ∷ ClientStore ∷ BeginPut 9 ∷ WorkerStep ∷ BeginSteal 0 ∷ ThiefStep 0 ∷ [])
-    ++ eqb (spacing_after BeginTake (One TheClient Client) (counting 5 true)).count 0
-    ∷ (spacing_after BeginTake Nothing no_take).begun
-    ∷ not (spacing_after WorkerStep Nothing no_take).begun
+    map (λ e. eqb (spacing_after e (Some (TheClient, Client)) (counting 5 true)).count 6) (Drain ∷ ClientStore ∷ BeginPut 9 ∷ WorkerStep ∷ BeginSteal 0 ∷ ThiefStep 0 ∷ [])
+    ++ eqb (spacing_after BeginTake (Some (TheClient, Client)) (counting 5 true)).count 0
+    ∷ (spacing_after BeginTake None no_take).begun
+    ∷ not (spacing_after WorkerStep None no_take).begun
     ∷ []
 
 -- four slots, and as many as there are
@@ -249,16 +249,16 @@ looks =
     ∷ eqb (looking false no_take).hidden 0
     ∷ eqb (looking true (counting 4097 true)).hidden 0
     ∷ eq_z (looking true no_take).tail.at (pos 4)
-    ∷ eqb (hidden_after_store (One ATake (Tail (index (pos 4)))) no_take true (seeing 63)) 64
-    ∷ eqb (hidden_after_store (One ATake (Tail (index (pos 4)))) no_take true (seeing 64)) 64
-    ∷ eqb (hidden_after_store (One ATake (Tail (index (pos 4)))) no_take true (seeing 65)) 65
-    ∷ eqb (hidden_after_store (One ATake (Tail (index (pos 5)))) no_take true (seeing 3)) 3
-    ∷ eqb (hidden_after_store (One TheClient Client) (counting 4096 true) true (seeing 3)) 3
-    ∷ eqb (hidden_after_store (One TheClient Client) (counting 4097 true) true (seeing 3)) 0
-    ∷ eqb (hidden_after_store (One ATake (Tail (index (negsuc 0)))) no_take true (seeing 3)) 4
-    ∷ eqb (hidden_after_store (One ATake (Tail (index (negsuc 1)))) no_take true (seeing 3)) 0
-    ∷ eqb (hidden_after_store Nothing no_take true (seeing 3)) 3
-    ∷ eqb (hidden_after_store Nothing no_take false (seeing 3)) 0
+    ∷ eqb (hidden_after_store (Some (ATake, Tail (index (pos 4)))) no_take true (seeing 63)) 64
+    ∷ eqb (hidden_after_store (Some (ATake, Tail (index (pos 4)))) no_take true (seeing 64)) 64
+    ∷ eqb (hidden_after_store (Some (ATake, Tail (index (pos 4)))) no_take true (seeing 65)) 65
+    ∷ eqb (hidden_after_store (Some (ATake, Tail (index (pos 5)))) no_take true (seeing 3)) 3
+    ∷ eqb (hidden_after_store (Some (TheClient, Client)) (counting 4096 true) true (seeing 3)) 3
+    ∷ eqb (hidden_after_store (Some (TheClient, Client)) (counting 4097 true) true (seeing 3)) 0
+    ∷ eqb (hidden_after_store (Some (ATake, Tail (index (negsuc 0)))) no_take true (seeing 3)) 4
+    ∷ eqb (hidden_after_store (Some (ATake, Tail (index (negsuc 1)))) no_take true (seeing 3)) 0
+    ∷ eqb (hidden_after_store None no_take true (seeing 3)) 3
+    ∷ eqb (hidden_after_store None no_take false (seeing 3)) 0
     ∷ eqb (hidden_after_head (index (negsuc 0)) true (seeing 3)) 3
     ∷ eqb (hidden_after_head (index (negsuc 1)) true (seeing 3)) 0
     ∷ eqb (hidden_after_head (index (pos 2147483648)) true (seeing 3)) 3

@@ -7,6 +7,7 @@
 -- what the parties load             Load
 -- what is tested first, and how far
 -- memory lags                       Look
+-- what an operation hands back      Done
 -- at the edges of their ranges      Edges
 pub mod Types
 pub mod Index
@@ -15,4 +16,5 @@ pub mod StoreBuffer
 pub mod Spacing
 pub mod Load
 pub mod Look
+pub mod Done
 pub mod Edges

@@ -3,7 +3,7 @@
 use Rattle.std.specs.Prelude.{Bool, cond, ◌&&◌, ℕ, ◌+◌, ◌-◌, leb, ltb}
 use Rattle.terms.specs.Lists.{all}
 use Rattle.terms.specs.Sizes.{sizes_in_range}
-use Rattle.stores.specs.Types.{Index, Look, Push, Sizes, Spacing, StoreBuffer, StoreKind}
+use Rattle.stores.specs.Types.{Index, Look, Option, Maker, StoreKind, Sizes, Spacing, StoreBuffer}
 use Rattle.stores.specs.Index.{index_in_range}
 use Rattle.stores.specs.Spacing.{spacing_in_range}
 use Rattle.stores.specs.StoreBuffer.{lowers_tail, newest_tail, pending, push_in_range, push_lowers_tail, store_in_range, take_stores}
@@ -36,7 +36,7 @@ look_at z head tail b p calls =
 -- For the code alone, which does not count again; that it comes to the number of the machine handed back is a law (`proofs/Laws/Look.antt`).
 
 -- after the store that the worker's entry makes, if it makes one: one more, if it lowers the tail, and no more than there are cells. The spacing count is as given, and call tells whether the worker's call is in range then.
-abbrev pub hidden_after_store : Push → Spacing → Bool → Look → ℕ
+abbrev pub hidden_after_store : Option (Maker × StoreKind) → Spacing → Bool → Look → ℕ
 hidden_after_store made p call l =
     hidden_if (spacing_in_range p && push_in_range made && call) (cond (push_lowers_tail l.tail made && ltb l.hidden 64) (l.hidden + 1) l.hidden)
 

@@ -4,7 +4,7 @@ use Rattle.std.specs.Prelude.{Bool, true, false, cond, ◌&&◌, ◌||◌, ℕ, 
 use mathlib.Core.List.{List, [], ◌∷◌, ◌++◌, foldl}
 use Rattle.std.specs.Int.Signed.{lt_z}
 use Rattle.terms.specs.Lists.{all}
-use Rattle.stores.specs.Types.{Index, Scan, Store, StoreBuffer, StoreKind, Client, Tail, Slot, Push, Nothing, One}
+use Rattle.stores.specs.Types.{Index, Scan, Store, StoreBuffer, StoreKind, Client, Tail, Slot, Option, Maker, None, Some}
 use Rattle.stores.specs.Index.{index_in_range, slot_index_in_range, slot_of}
 
 -- ── The pending stores ──────────────────────────────────────────────────────────────────────────────────────────────────────
@@ -32,9 +32,9 @@ store_in_range (Tail t) = index_in_range t
 store_in_range (Slot x i) = slot_index_in_range i
 
 -- .. of the store that an entry makes, if it makes one
-abbrev pub push_in_range : Push → Bool
-push_in_range Nothing = true
-push_in_range (One maker kind) = store_in_range kind
+abbrev pub push_in_range : Option (Maker × StoreKind) → Bool
+push_in_range None = true
+push_in_range (Some (maker, kind)) = store_in_range kind
 
 -- ── First in, first out ─────────────────────────────────────────────────────────────────────────────────────────────────────
 
@@ -47,13 +47,13 @@ abbrev pub push_or_same : Store → StoreBuffer → StoreBuffer
 push_or_same s b = cond (leb 64 b.count) b (push s b)
 
 -- the buffer with the store that an entry makes, if it makes one, whoever makes it
-abbrev pub pushed_in : Push → StoreBuffer → StoreBuffer
-pushed_in Nothing b = b
-pushed_in (One maker kind) b = push (record { kind = kind }) b
+abbrev pub pushed_in : Option (Maker × StoreKind) → StoreBuffer → StoreBuffer
+pushed_in None b = b
+pushed_in (Some (maker, kind)) b = push (record { kind = kind }) b
 
-abbrev pub pushed_or_same : Push → StoreBuffer → StoreBuffer
-pushed_or_same Nothing b = b
-pushed_or_same (One maker kind) b = push_or_same (record { kind = kind }) b
+abbrev pub pushed_or_same : Option (Maker × StoreKind) → StoreBuffer → StoreBuffer
+pushed_or_same None b = b
+pushed_or_same (Some (maker, kind)) b = push_or_same (record { kind = kind }) b
 
 -- the store that has been pending longest; what the first cell holds, where none is
 abbrev pub oldest : StoreBuffer → Store
@@ -116,9 +116,9 @@ take_stores t [] = 0
 take_stores t (a ∷ b) = cond (lowers_tail t a.kind) 1 0 + take_stores (tail_after t a.kind) b
 
 -- the store that an entry makes, if it makes one, is such a store
-abbrev pub push_lowers_tail : Index → Push → Bool
-push_lowers_tail t Nothing = false
-push_lowers_tail t (One maker kind) = lowers_tail t kind
+abbrev pub push_lowers_tail : Index → Option (Maker × StoreKind) → Bool
+push_lowers_tail t None = false
+push_lowers_tail t (Some (maker, kind)) = lowers_tail t kind
 
 -- What finds the worker's newest tail also tells that number, and whether every pending store is in range: one pass over them, from memory's tail on.
 abbrev pub scan : Index → StoreBuffer → Scan

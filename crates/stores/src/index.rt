@@ -5,6 +5,7 @@ ghost use Rattle.stores.specs.Index.{
   below_by_more,
   index_from,
   index_in_range,
+  index_of,
   next_or_same,
   previous_or_same,
   slot_index_in_range,
@@ -16,6 +17,14 @@ ghost use Rattle.stores.specs.Index.{
 #[derive(Clone, Copy)]
 pub struct Index {
     pub at: i64,
+}
+
+impl From<u32> for Index {
+    ghost from_gives = { λ number index. index ≡ index_of number };
+
+    fn from(number: u32) -> Index {
+        Index { at: number as i64 }
+    }
 }
 
 impl Index {

@@ -4,13 +4,6 @@ ghost use Rattle.stores.specs.Load.{memory_load, worker_load};
 use crate::index::{Index, slot_of};
 use crate::store_buffer::StoreBuffer;
 
-// The slot from which a step loads, if it loads from one: that of an index.
-#[derive(Clone, Copy)]
-pub enum Load {
-    NoSlot,
-    SlotOf(Index),
-}
-
 // What memory has in the slot of an index, of so many slots. A slot beyond the array holds 0.
 pub fn memory_load(memory: [u32; 256], slots: u32, index: Index) -> u32
     ensures { result ≡ memory_load slots memory index }

@@ -3,10 +3,10 @@ ghost use Rattle.stores.specs.Look.{hidden_after_drain, hidden_after_head, hidde
 
 use crate::index::Index;
 use crate::spacing::Spacing;
-use crate::store_buffer::{Push, StoreBuffer, StoreKind};
+use crate::store_buffer::{Maker, StoreBuffer, StoreKind, push_in_range, push_lowers_tail};
 use terms::Sizes;
 
-// What one look at a machine finds, with which every operation begins.
+// What one look at a machine finds, with which every operation begins. (No Option: request 4 tells a number where it is out of range, too.)
 #[derive(Clone, Copy)]
 pub struct Look {
     // Whether the machine is in range.
@@ -63,12 +63,12 @@ impl Look {
     }
 
     // How many stores of take step 1 are pending after a move of the worker's that makes this store, if it makes one, and leaves the spacing count so; `call` tells whether its call is in range then.
-    pub fn after_store(self, made: Push, spacing: Spacing, call: bool) -> u32
+    pub fn after_store(self, made: Option<(Maker, StoreKind)>, spacing: Spacing, call: bool) -> u32
         ensures { result ≡ hidden_after_store made spacing call self }
     {
         let tail = self.tail;
-        let ranged = spacing.in_range() & made.in_range() & call;
-        hidden_if(ranged, more_if(made.lowers_tail(tail), self.hidden))
+        let ranged = spacing.in_range() & push_in_range(made) & call;
+        hidden_if(ranged, more_if(push_lowers_tail(made, tail), self.hidden))
     }
 
     // .. after a move of a thief's that leaves head so; `call` tells whether its call is in range then.

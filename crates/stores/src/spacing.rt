@@ -3,16 +3,17 @@ ghost use Rattle.stores.specs.Spacing.{
   counted,
   counted_in_or_same,
   counts,
+  no_take,
   spacing_after,
   spacing_in_range,
   take_begins,
   too_early,
 };
 
-use crate::store_buffer::{Maker, Push};
+use crate::store_buffer::{Maker, StoreKind};
 use terms::Entry;
 
-// What the spacing rule goes by.
+// What the spacing rule goes by. (No Option: a machine that is handed in may have a count before its first take, which `counted` says what becomes of.)
 #[derive(Clone, Copy)]
 pub struct Spacing {
     // The spacing count: the stores that count, made since the last take began; 0 before the first.
@@ -61,21 +62,18 @@ impl Spacing {
     }
 
     // After the store that an entry makes, if it makes one and it counts. A count out of range stays as it is.
-    pub fn counted_in(self, made: Push) -> Spacing
+    pub fn counted_in(self, made: Option<(Maker, StoreKind)>) -> Spacing
         ensures { result ≡ counted_in_or_same made self }
     {
         if 4096 < self.count {
             return self;
         }
-        match made {
-            Push::Nothing => return self,
-            Push::One(maker, _) => {
-                if maker.counts() {
-                    return self.counted();
-                }
-                return self;
+        if let Some((maker, _)) = made {
+            if maker.counts() {
+                return self.counted();
             }
         }
+        self
     }
 
     // Whether a take would be too early, by this spacing.
@@ -83,6 +81,16 @@ impl Spacing {
         ensures { result ≡ too_early self spacing }
     {
         self.begun & (self.count < spacing)
+    }
+
+    // Before the first take.
+    pub fn no_take() -> Spacing
+        ensures { result ≡ no_take }
+    {
+        Spacing {
+            count: 0,
+            begun: false,
+        }
     }
 
     // As a take begins: the count starts anew.
@@ -96,7 +104,7 @@ impl Spacing {
     }
 
     // After an entry that is not refused, with the store that it makes, if it makes one.
-    pub fn after(self, entry: Entry, made: Push) -> Spacing
+    pub fn after(self, entry: Entry, made: Option<(Maker, StoreKind)>) -> Spacing
         ensures { result ≡ spacing_after entry made self }
     {
         if let Entry::BeginTake = entry {

@@ -1,9 +1,11 @@
-ghost use Rattle.std.specs.Prelude.{◌≡◌, ◌<◌};
+ghost use Rattle.std.specs.Prelude.{◌≡◌, ◌≤◌, ◌<◌, length};
 ghost use Rattle.stores.specs.StoreBuffer.{
   drop_oldest_or_same,
+  empty_buffer,
   lowers_tail,
   newest_in_slot,
   oldest,
+  pending,
   push_in_range,
   push_lowers_tail,
   push_or_same,
@@ -46,17 +48,10 @@ pub enum Maker {
     ATake,
 }
 
-// The store that an entry makes, with who makes it, if it makes one.
-#[derive(Clone, Copy)]
-pub enum Push {
-    Nothing,
-    One(Maker, StoreKind),
-}
-
 // The stores that the worker has made and that have not reached memory, oldest first.
 #[derive(Clone, Copy)]
 pub struct StoreBuffer {
-    // The pending stores stand in the first `count` cells. A machine's own operations keep the client store in the
+    // 01 names this form, an array with a count. The pending stores stand in the first `count` cells. A machine's own operations keep the client store in the
     // others, so that equal buffers have equal cells.
     pub stores: [Store; 64],
     // How many are pending; where that is more than there are cells, all cells are.
@@ -84,17 +79,6 @@ pub struct Scan {
 }
 
 impl StoreKind {
-    // The same, case by case: an enum that is copied whole takes its padding along, and the array that it comes from (`docs/ARCHITECTURE.md`, "Where a run's time goes").
-    fn copied(self) -> StoreKind
-        ensures { result ≡ self }
-    {
-        match self {
-            StoreKind::Client => StoreKind::Client,
-            StoreKind::Tail(tail) => StoreKind::Tail(tail),
-            StoreKind::Slot(task, index) => StoreKind::Slot(task, index),
-        }
-    }
-
     // Whether a machine may have it pending.
     pub fn in_range(self) -> bool
         ensures { result ≡ store_in_range self }
@@ -189,46 +173,59 @@ impl Scan {
     }
 }
 
-impl Push {
-    // Whether the store that is made, if one is, may be pending.
-    pub fn in_range(self) -> bool
-        ensures { result ≡ push_in_range self }
-    {
-        match self {
-            Push::Nothing => true,
-            Push::One(_, kind) => kind.in_range(),
-        }
+// Whether the store that an entry makes, if it makes one, may be pending.
+pub fn push_in_range(made: Option<(Maker, StoreKind)>) -> bool
+    ensures { result ≡ push_in_range made }
+{
+    match made {
+        None => true,
+        Some((_, kind)) => kind.in_range(),
     }
+}
 
-    // Whether a store is made that lowers the tail, from what the worker loads.
-    pub fn lowers_tail(self, tail: Index) -> bool
-        ensures { result ≡ push_lowers_tail tail self }
-    {
-        match self {
-            Push::Nothing => false,
-            Push::One(_, kind) => kind.lowers_tail(tail),
-        }
+// Whether it lowers the tail, from what the worker loads.
+pub fn push_lowers_tail(made: Option<(Maker, StoreKind)>, tail: Index) -> bool
+    ensures { result ≡ push_lowers_tail tail made }
+{
+    match made {
+        None => false,
+        Some((_, kind)) => kind.lowers_tail(tail),
     }
 }
 
 impl StoreBuffer {
+    // With no store pending, in a machine that lets so many be.
+    pub fn empty(buffer: u32) -> StoreBuffer
+        ensures { result ≡ empty_buffer }
+    {
+        let client = Store {
+            kind: StoreKind::Client,
+        };
+        // A store at a place that the compiler does not know keeps it from splitting the array into its cells (`docs/ARCHITECTURE.md`, "Where a run's time goes").
+        let mut stores = [client; 64];
+        stores[buffer as usize % 64] = client;
+        StoreBuffer { stores, count: 0 }
+    }
+
+    // The pending stores, oldest first.
+    fn pending(&self) -> &[Store]
+        ensures value { result.now ≡ pending self.now }
+        ensures few { length result.now ≤ 64 }
+    {
+        &self.stores[..self.count.min(64)]
+    }
+
     // One pass over the pending stores, from memory's tail on.
     pub fn scan(self, tail: Index) -> Scan
         ensures { result ≡ scan tail self }
     {
-        let stores = self.stores;
-        let count = self.count;
         let mut found = Scan {
             ranged: true,
-            tail: tail,
+            tail,
             takes: 0,
         };
-        let mut i: usize = 0;
-        while (i < count) & (i < 64) {
-            let store = stores[i];
-            let kind = store.kind;
-            found = found.after(kind);
-            i += 1;
+        for store in self.pending() {
+            found = found.after(store.kind);
         }
         found
     }
@@ -237,17 +234,10 @@ impl StoreBuffer {
     pub fn newest_in_slot(self, slots: u32, slot: usize, value: u32) -> u32
         ensures { result ≡ newest_in_slot slots slot value self }
     {
-        let stores = self.stores;
-        let count = self.count;
-        let mut newest = value;
-        let mut i: usize = 0;
-        while (i < count) & (i < 64) {
-            let store = stores[i];
-            let kind = store.kind;
-            newest = kind.slot_after(slots, slot, newest);
-            i += 1;
-        }
-        newest
+        self.pending().iter().fold(
+            value,
+            |newest, store| store.kind.slot_after(slots, slot, newest),
+        )
     }
 
     // Without the oldest, which is handed back beside: the others move a cell to the front, and the cell that becomes free holds the client store.
@@ -258,9 +248,7 @@ impl StoreBuffer {
         let mut stores = self.stores;
         let first = stores[0];
         let kind = first.kind;
-        let oldest = Store {
-            kind: kind.copied(),
-        };
+        let oldest = Store { kind };
         let mut left = count;
         if (0 < count) & (count <= 64) {
             let mut i: usize = 1;
@@ -301,15 +289,12 @@ impl StoreBuffer {
     }
 
     // With the store that an entry makes, if it makes one and a cell is free.
-    pub fn pushed(self, made: Push) -> StoreBuffer
+    pub fn pushed(self, made: Option<(Maker, StoreKind)>) -> StoreBuffer
         ensures { result ≡ pushed_or_same made self }
     {
-        match made {
-            Push::Nothing => return self,
-            Push::One(_, kind) => {
-                let store = Store { kind: kind };
-                return self.push(store);
-            }
+        if let Some((_, kind)) = made {
+            return self.push(Store { kind });
         }
+        self
     }
 }

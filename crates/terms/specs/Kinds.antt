@@ -1,8 +1,7 @@
 -- Kinds of entries: what a kind byte means, which operands are allowed, and whose entry each is. Renders "Kinds", of "The schedule file", and 3 KIND and 4 WHO, of "The numbers", as far as one
 -- entry goes.
-use Rattle.std.specs.Prelude.{Bool, true, cond, List, [], ◌∷◌, ℕ, suc, eqb, ltb, get_or}
-use Rattle.terms.specs.Types.{Allowed, BeginPut, BeginSteal, BeginTake, ClientStore, Drain, Entry, Kind, Meaning, Sizes, ThiefStep, Who, WorkerStep}
-use Rattle.terms.specs.declared.kinds.Meaning.TheVariants as meaning
+use Rattle.std.specs.Prelude.{Bool, true, cond, List, [], ◌∷◌, ℕ, suc, eqb, ltb, get_or, Result, Ok, Err}
+use Rattle.terms.specs.Types.{BeginPut, BeginSteal, BeginTake, ClientStore, Drain, Entry, Kind, Refusal, Sizes, ThiefStep, Who, WorkerStep}
 
 -- the kind and the operand of each entry, as a file has them
 abbrev pub kind_of : Entry → ℕ
@@ -54,16 +53,16 @@ thief_is_there s (BeginSteal i) = ltb i s.thieves
 thief_is_there s (ThiefStep i) = ltb i s.thieves
 
 -- an entry, if its operand is allowed; else WHO
-abbrev pub allowed_if : Bool → ℕ → Entry → Meaning
-allowed_if allowed place entry = cond allowed (Allowed entry) (meaning.Refused (Who place))
+abbrev pub allowed_if : Bool → ℕ → Entry → Result Entry Refusal
+allowed_if allowed place entry = cond allowed (Ok entry) (Err (Who place))
 
 -- What the kinds mean, 0 first. Kind 2 takes any operand, the task's number; 5 and 6 take a thief, counted from 0 and so below the number
 -- of thieves; the others take 0 alone.
-abbrev pub meanings : ℕ → ℕ → ℕ → List Meaning
+abbrev pub meanings : ℕ → ℕ → ℕ → List (Result Entry Refusal)
 meanings thieves place operand =
     allowed_if (eqb operand 0) place Drain
     ∷ allowed_if (eqb operand 0) place ClientStore
-    ∷ Allowed (BeginPut operand)
+    ∷ Ok (BeginPut operand)
     ∷ allowed_if (eqb operand 0) place BeginTake
     ∷ allowed_if (eqb operand 0) place WorkerStep
     ∷ allowed_if (ltb operand thieves) place (BeginSteal operand)
@@ -71,5 +70,5 @@ meanings thieves place operand =
     ∷ []
 
 -- a kind byte and its operand, at a place of a schedule; a kind past the last is KIND, whatever its operand
-abbrev pub entry_of : ℕ → ℕ → ℕ → ℕ → Meaning
-entry_of thieves place kind operand = get_or (meanings thieves place operand) kind (meaning.Refused (Kind place))
+abbrev pub entry_of : ℕ → ℕ → ℕ → ℕ → Result Entry Refusal
+entry_of thieves place kind operand = get_or (meanings thieves place operand) kind (Err (Kind place))

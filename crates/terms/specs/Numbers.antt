@@ -1,8 +1,7 @@
 -- The paper's numbers, as one table over the definitions: each outcome with number and value, each refusal with number and place, sizes and entries of a file that are refused, each kind of entry
 -- with its party and its thief, and margins that are enough or short. It refuses a number that is another in definition and code alike. `proofs/Numbers.antt` proves one fact: every row holds.
-use Rattle.std.specs.Prelude.{Bool, true, false, not, ◌&&◌, List, [], ◌∷◌, ℕ, eqb}
-use Rattle.terms.specs.Types.{Abort, Allowed, BeginPut, BeginSteal, BeginTake, Block, ClientStore, Drain, Early, Empty, End, Entry, Full, Kind, Margin, Meaning, Moved, Outcome, Place, Refusal, Room, Short, Size, Sizes, Stored, Task, ThiefStep, Wait, Who, WorkerStep}
-use Rattle.terms.specs.declared.kinds.Meaning.TheVariants as meaning
+use Rattle.std.specs.Prelude.{Bool, true, false, not, ◌&&◌, List, [], ◌∷◌, ℕ, eqb, Result, Ok, Err}
+use Rattle.terms.specs.Types.{Abort, BeginPut, BeginSteal, BeginTake, Block, ClientStore, Drain, Early, Empty, End, Entry, Full, Kind, Margin, Moved, Outcome, Place, Refusal, Room, Short, Size, Sizes, Stored, Task, ThiefStep, Wait, Who, WorkerStep}
 use Rattle.terms.specs.Outcome.{is_answer, is_answer_number, is_refusal, number_of, value_of}
 use Rattle.terms.specs.Refusal.{refused_by}
 use Rattle.terms.specs.Sizes.{check_sizes, enough_margin, refusal_in_sizes, sized}
@@ -33,9 +32,9 @@ abbrev pub is_refused : ℕ → ℕ → List Refusal → Bool
 is_refused number place [] = false
 is_refused number place (r ∷ l) = refused_by r number place
 
-abbrev pub is_no_entry : ℕ → ℕ → Meaning → Bool
-is_no_entry number place (Allowed e) = false
-is_no_entry number place (meaning.Refused r) = refused_by r number place
+abbrev pub is_no_entry : ℕ → ℕ → Result Entry Refusal → Bool
+is_no_entry number place (Ok e) = false
+is_no_entry number place (Err r) = refused_by r number place
 
 abbrev pub holds : Row → Bool
 holds (outcome o number value answered refused) =

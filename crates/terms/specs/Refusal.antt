@@ -1,5 +1,5 @@
 -- Refusals of a whole file, in the papers' numbers. Renders "The numbers, by who can cause them": 1 to 4 and, for whoever lends a buffer, 8; and 9 and 10, of 02's request 2.
-use Rattle.std.specs.Prelude.{◌≡◌, Bool, true, false, ◌&&◌, List, [], ◌∷◌, ℕ, eqb}
+use Rattle.std.specs.Prelude.{◌≡◌, Bool, true, false, ◌&&◌, List, [], ◌∷◌, ℕ, eqb, Result, Ok, Err}
 use Rattle.terms.specs.Types.{Refusal, Size, Short, Kind, Who, Room, Margin, Block}
 
 -- the number of each refusal
@@ -31,3 +31,8 @@ refused_by r number place = eqb (number_of r) number && eqb (place_of r) place
 abbrev pub Refuses : (ℕ → ℕ → Bool) → List Refusal → Type 0
 Refuses has [] = (number place : ℕ) → has number place ≡ false
 Refuses has (r ∷ l) = has (number_of r) (place_of r) ≡ true
+
+-- The refusal in an answer, if there is one.
+abbrev pub refusal_in : {A : Type 0} → Result A Refusal → List Refusal
+refusal_in (Ok a) = []
+refusal_in (Err r) = r ∷ []

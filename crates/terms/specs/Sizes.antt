@@ -1,7 +1,7 @@
 -- The sizes of a schedule: their ranges and the margins. Renders "The schedule file": the table, places 0 to 5 (place 6, the number
 -- of entries, is a matter of the file), and the paragraph under it.
-use Rattle.std.specs.Prelude.{Bool, true, false, cond, not, ◌&&◌, List, [], ◌∷◌, ℕ, ◌+◌, ◌-◌, ◌/◌, leb, eqb, get_or}
-use Rattle.terms.specs.Types.{Refusal, Size, Sizes, SizeCheck, AllInRange, OutOfRange}
+use Rattle.std.specs.Prelude.{Bool, true, cond, not, ◌&&◌, List, [], ◌∷◌, ℕ, ◌+◌, ◌-◌, ◌/◌, leb, eqb, get_or, Option, None, Some, is_none}
+use Rattle.terms.specs.Types.{Refusal, Size, Sizes}
 
 -- six numbers as sizes, in the order of the table
 abbrev pub sized : ℕ → ℕ → ℕ → ℕ → ℕ → ℕ → Sizes
@@ -24,30 +24,26 @@ ranges_kept s =
     ∷ []
 
 -- the place of the first test that failed, counted from a given one
-abbrev pub first_fault : ℕ → List Bool → SizeCheck
-first_fault place [] = AllInRange
-first_fault place (kept ∷ l) = cond kept (first_fault (place + 1) l) (OutOfRange place)
+abbrev pub first_fault : ℕ → List Bool → Option ℕ
+first_fault place [] = None
+first_fault place (kept ∷ l) = cond kept (first_fault (place + 1) l) (Some place)
 
 -- which size is refused, if one is: of those out of range, the one with the lowest place
-abbrev pub check_sizes : Sizes → SizeCheck
+abbrev pub check_sizes : Sizes → Option ℕ
 check_sizes s = first_fault 0 (ranges_kept s)
 
 -- the refusal in such an answer: SIZE, with the place
-abbrev pub refusal_in_sizes : SizeCheck → List Refusal
-refusal_in_sizes AllInRange = []
-refusal_in_sizes (OutOfRange place) = Size place ∷ []
+abbrev pub refusal_in_sizes : Option ℕ → List Refusal
+refusal_in_sizes None = []
+refusal_in_sizes (Some place) = Size place ∷ []
 
 -- whether the six sizes have the fault with this number and this place
 abbrev pub sizes_have : Sizes → ℕ → ℕ → Bool
 sizes_have s number place = eqb number 1 && not (get_or (ranges_kept s) place true)
 
-abbrev pub no_fault : SizeCheck → Bool
-no_fault AllInRange = true
-no_fault (OutOfRange place) = false
-
 -- every size is in its range
 abbrev pub sizes_in_range : Sizes → Bool
-sizes_in_range s = no_fault (check_sizes s)
+sizes_in_range s = is_none (check_sizes s)
 
 -- a margin of 0 is the buffer size; no other size has such a meaning
 abbrev pub margin_in_use : Sizes → ℕ

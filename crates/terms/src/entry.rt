@@ -3,7 +3,7 @@ ghost use Rattle.terms.specs.Kinds.{party_number, thief_of};
 
 // The seven kinds of entry that a schedule is made of. A call is begun by one entry, which leaves memory alone, and then
 // makes its steps, one to an entry.
-#[derive(Clone, Copy)]
+#[derive(Clone, Copy, Debug, PartialEq, Eq)]
 pub enum Entry {
     // The oldest pending store reaches memory.
     Drain,
@@ -27,11 +27,11 @@ impl Entry {
         ensures { result ≡ party_number self }
     {
         match self {
-            Entry::Drain => 0,
-            Entry::ClientStore => 0,
-            Entry::BeginPut(_) => 0,
-            Entry::BeginTake => 0,
-            Entry::WorkerStep => 0,
+            Entry::Drain
+            | Entry::ClientStore
+            | Entry::BeginPut(_)
+            | Entry::BeginTake
+            | Entry::WorkerStep => 0,
             Entry::BeginSteal(thief) => thief as usize + 1,
             Entry::ThiefStep(stepping) => stepping as usize + 1,
         }

@@ -6,7 +6,7 @@
 // - `entry`: the seven kinds of entry, whose entry each is, and which thief it names;
 // - `outcome`: the outcome of an entry, with its number and value in a trace, and whether it is a refusal;
 // - `refusal`: why a file is refused, with number and place;
-// - `kinds`: what a kind byte and its operand mean: an entry, or a refusal;
+// - `kinds`: the entry that a kind byte and its operand mean, or why it is refused;
 // - `tally`: how many entries had each of three outcomes; an outcome is counted by value, or in a tally that is lent.
 #![tactic(auto)]
 
@@ -18,8 +18,8 @@ mod sizes;
 mod tally;
 
 pub use entry::Entry;
-pub use kinds::{Meaning, entry_of};
+pub use kinds::entry_of;
 pub use outcome::{Outcome, is_answer};
 pub use refusal::Refusal;
-pub use sizes::{SizeCheck, Sizes, needed_margin, within};
+pub use sizes::{Sizes, needed_margin, within};
 pub use tally::{Tally, count_outcome};

@@ -2,7 +2,7 @@ ghost use Rattle.std.specs.Prelude.{◌≡◌};
 ghost use Rattle.terms.specs.Outcome.{is_answer_number, is_refusal, number_of, value_of};
 
 // The outcome of an entry.
-#[derive(Clone, Copy)]
+#[derive(Clone, Copy, Debug, PartialEq, Eq)]
 pub enum Outcome {
     // A step was made, and the call goes on; or a drain, a client store or a beginning.
     Moved,
@@ -50,16 +50,8 @@ impl Outcome {
         ensures { result ≡ value_of self }
     {
         match self {
-            Outcome::Moved => 0,
-            Outcome::Place => 0,
-            Outcome::Early => 0,
-            Outcome::Wait => 0,
-            Outcome::Stored => 0,
             Outcome::Task(task) => task,
-            Outcome::Empty => 0,
-            Outcome::Abort => 0,
-            Outcome::Full => 0,
-            Outcome::End => 0,
+            _ => 0,
         }
     }
 
@@ -67,8 +59,7 @@ impl Outcome {
     pub fn is_refusal(self) -> bool
         ensures { result ≡ is_refusal self }
     {
-        let number = self.number();
-        (5 <= number) & (number <= 7)
+        (5..=7).contains(&self.number())
     }
 }
 
@@ -76,5 +67,5 @@ impl Outcome {
 pub fn is_answer(number: u8) -> bool
     ensures { result ≡ is_answer_number number }
 {
-    (number >= 16) & (number <= 21)
+    (16..=21).contains(&number)
 }

@@ -2,7 +2,7 @@ ghost use Rattle.std.specs.Prelude.{◌≡◌};
 ghost use Rattle.terms.specs.Refusal.{number_of, place_of};
 
 // Why a file is not read, or not written, or no sheet made of it: it breaks a rule, or the memory that was lent is too small.
-#[derive(Clone, Copy)]
+#[derive(Clone, Copy, Debug, PartialEq, Eq)]
 pub enum Refusal {
     // SIZE: the size at this place, counted from 0, is out of its range; 7 is a share sheet's count.
     Size(usize),
@@ -42,12 +42,10 @@ impl Refusal {
     {
         match self {
             Refusal::Size(place) => place,
-            Refusal::Short => 0,
             Refusal::Kind(entry) => entry,
-            Refusal::Who(entry) => entry,
-            Refusal::Room => 0,
+            Refusal::Who(entry) | Refusal::Block(entry) => entry,
             Refusal::Margin => 3,
-            Refusal::Block(entry) => entry,
+            Refusal::Short | Refusal::Room => 0,
         }
     }
 }

@@ -3,7 +3,7 @@ ghost use Rattle.terms.specs.Refusal.{Refuses};
 ghost use Rattle.terms.specs.Sizes.{check_sizes, enough_margin, margin_in_use, needed_margin, refusal_in_sizes, sizes_have, sizes_in_range, within};
 
 // The first six sizes of a schedule, as its file has them. The margin may be 0 here; `margin_in_use` says what that is.
-#[derive(Clone, Copy)]
+#[derive(Clone, Copy, Debug, PartialEq, Eq)]
 pub struct Sizes {
     // How many slots memory has. (W in Morrison and Afek.)
     pub slots: u32,
@@ -20,39 +20,20 @@ pub struct Sizes {
     pub start: u32,
 }
 
-// Whether six sizes are in range.
-#[derive(Clone, Copy)]
-pub enum SizeCheck {
-    AllInRange,
-    // The place of the first size that is not, counted from 0.
-    OutOfRange(u32),
-}
-
 // The margin that a buffer of this size needs where takes are spaced so far apart: as many of their stores can be
 // pending at once. The quotient is rounded up.
 pub fn needed_margin(buffer: u32, spacing: u32) -> u32
     ensures { result ≡ needed_margin buffer spacing }
 {
     let apart = spacing as u64 + 1;
-    ((buffer as u64 + (apart - 1)) / apart) as u32
+    (buffer as u64).div_ceil(apart) as u32
 }
 
 // Whether a number is neither below the least nor above the greatest.
 pub fn within(least: u32, greatest: u32, n: u32) -> bool
     ensures { result ≡ within least greatest n }
 {
-    if least <= n { n <= greatest } else { false }
-}
-
-// A size that is not within its range is the first fault; of one that is, the later places decide.
-fn first_fault(place: u32, least: u32, greatest: u32, size: u32, later: SizeCheck) -> SizeCheck
-    ensures { result ≡ cond (within least greatest size) later (SizeCheck.OutOfRange place) }
-{
-    if within(least, greatest, size) {
-        later
-    } else {
-        SizeCheck::OutOfRange(place)
-    }
+    (least..=greatest).contains(&n)
 }
 
 impl Sizes {
@@ -71,27 +52,26 @@ impl Sizes {
         needed_margin(self.buffer, self.spacing) <= self.margin_in_use()
     }
 
-    // The place of the first size that is out of its range, if one is.
-    pub fn check(self) -> SizeCheck
+    // The place of the first size that is out of its range, counted from 0, if one is.
+    pub fn check(self) -> Option<usize>
         ensures value { result ≡ check_sizes self }
         ensures refuses { Refuses (sizes_have self) (refusal_in_sizes result) }
     {
-        let start = first_fault(5, 0, 2147483647, self.start, SizeCheck::AllInRange);
-        let thieves = first_fault(4, 1, 8, self.thieves, start);
-        let margin = first_fault(3, 0, 64, self.margin, thieves);
-        let spacing = first_fault(2, 0, 63, self.spacing, margin);
-        let buffer = first_fault(1, 1, 64, self.buffer, spacing);
-        first_fault(0, 2, 256, self.slots, buffer)
+        let kept = [
+            within(2, 256, self.slots),
+            within(1, 64, self.buffer),
+            within(0, 63, self.spacing),
+            within(0, 64, self.margin),
+            within(1, 8, self.thieves),
+            within(0, 2147483647, self.start),
+        ];
+        kept.iter().position(|&kept| !kept)
     }
 
     // Whether every size is in its range.
     pub fn in_range(self) -> bool
         ensures { result ≡ sizes_in_range self }
     {
-        let found = self.check();
-        match found {
-            SizeCheck::AllInRange => true,
-            SizeCheck::OutOfRange(_) => false,
-        }
+        self.check().is_none()
     }
 }

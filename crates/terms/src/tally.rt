@@ -4,7 +4,7 @@ ghost use Rattle.terms.specs.Tally.{counted, counted_if, none_counted};
 use crate::outcome::Outcome;
 
 // How many entries had each of three outcomes. A total that has reached the largest number stays there.
-#[derive(Clone, Copy)]
+#[derive(Clone, Copy, Debug, PartialEq, Eq)]
 pub struct Tally {
     // TASK: a task was handed out.
     pub given: u32,
@@ -19,32 +19,20 @@ fn counted_if(counts: bool, total: u32) -> u32
     ensures { result ≡ counted_if counts total }
 {
     if counts {
-        if total < 4294967295 {
-            return total + 1;
-        }
-        // At its largest it stays.
-        return total;
-    }
-    total
-}
-
-// The tally of these totals, after one outcome more.
-fn counted_totals(given: u32, aborts: u32, waits: u32, outcome: Outcome) -> Tally
-    ensures { result ≡ counted (record { given = given; aborts = aborts; waits = waits }) outcome }
-{
-    let number = outcome.number();
-    Tally {
-        given: counted_if(number == 17, given),
-        aborts: counted_if(number == 19, aborts),
-        waits: counted_if(number == 7, waits),
+        total.saturating_add(1)
+    } else {
+        total
     }
 }
 
-// Counts an outcome in a tally that the caller lends: three loads, a call and a store.
+// Counts an outcome in a tally that the caller lends.
 pub fn count_outcome(tally: &mut Tally, outcome: Outcome)
     ensures { tally.new ≡ counted tally.old outcome }
 {
-    *tally = counted_totals(tally.given, tally.aborts, tally.waits, outcome);
+    let number = outcome.number();
+    tally.given = counted_if(number == 17, tally.given);
+    tally.aborts = counted_if(number == 19, tally.aborts);
+    tally.waits = counted_if(number == 7, tally.waits);
 }
 
 impl Tally {

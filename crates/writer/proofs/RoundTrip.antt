@@ -1,4 +1,5 @@
 -- What is read is written back byte for byte, and what was written is read back.
+use Rattle.std.proofs.Common.{Ok}
 use mathlib.Core.Path.{◌≡◌, refl, ap, sym, ◌∙◌}
 use mathlib.Core.Bool.{true}
 use mathlib.Core.List.{List, [], ◌++◌, append-nil}
@@ -9,7 +10,7 @@ use lib.ListN.{drop, get_or, length, replicate, take, take-append-drop}
 use lib.Seq.{drop_at, drop-drop, take_at}
 use borrow.Author.Tests.{lt-ltb}
 use Rattle.terms.proofs.Laws.Sizes.{sizes_bounds}
-use Rattle.writer.specs.Types.{Accepted, Sizes, Written}
+use Rattle.writer.specs.Types.{Sizes}
 use Rattle.schedule.specs.Check.{check_ranges}
 use Rattle.schedule.specs.Entries.{check_entries}
 use Rattle.schedule.specs.Format.{all_below, decode, encode, entries_in, file_of, kinds_in, layout, operands_in, size_numbers, sizes_in}
@@ -71,7 +72,7 @@ written_back file below p =
     record {
       same = file_again file p below;
       told = λ room fits.
-          ap (writing_of (28 + 5 * length kinds)) (writable_passes s kinds operands room (writable_again file p room fits)) ∙ ap Written long;
+          ap (writing_of (28 + 5 * length kinds)) (writable_passes s kinds operands room (writable_again file p room fits)) ∙ ap Ok long;
       bytes = λ buffer fits.
           buffer_written s kinds operands buffer (writable_again file p (length buffer) fits)
           ∙ ap (λ l. l ++ drop (length l) buffer) (file_again file p below);
@@ -162,7 +163,7 @@ module _ (s : Sizes) (kinds operands : List ℕ) (words : all_below 4294967296 o
   read_back : ReadBack s kinds operands (file_of s kinds operands)
   read_back =
       record {
-        accepted = readable_accepted (file_of s kinds operands) written_readable ∙ (λ i. Accepted (sizes_read i) (entries_read i));
+        accepted = readable_accepted (file_of s kinds operands) written_readable ∙ (λ i. Ok ((sizes_read i), (entries_read i)));
         kinds_same = kinds_read;
         operands_same = operands_read;
       }

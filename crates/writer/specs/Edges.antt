@@ -1,14 +1,13 @@
 -- Writing at its edges, as one table over the definitions: the example of "The program's lines" byte by byte, a file of six different sizes, an operand whose bytes are 1, 2, 3 and 4, buffers as long as the file, longer, and one byte short, and
 -- schedules with several faults, which show the order of the checks. `proofs/Edges.antt` proves one fact: every row holds.
-use Rattle.std.specs.Prelude.{Bool, false, ◌&&◌, List, [], ◌∷◌, ◌++◌, ℕ, eqb, replicate}
+use Rattle.std.specs.Prelude.{Bool, false, ◌&&◌, List, [], ◌∷◌, ◌++◌, ℕ, eqb, replicate, Result, Ok, Err}
 use Rattle.schedule.specs.Format.{size_bytes}
 use Rattle.terms.specs.Lists.{equal}
 use Rattle.terms.specs.Sizes.{sized}
 use Rattle.terms.specs.Refusal.{refused_by}
 use Rattle.schedule.specs.Edges.{different, different_file, example, example_file, example_operands, with_thieves}
 use Rattle.schedule.specs.Runs.{before}
-use Rattle.writer.specs.Types.{Sizes, Writing, Written}
-use Rattle.writer.specs.declared.writer.Writing.TheVariants as writing
+use Rattle.writer.specs.Types.{Sizes, Refusal}
 use Rattle.writer.specs.Writer.{buffer_after, write_file}
 
 -- ── Rows ────────────────────────────────────────────────────────────────────────────────────────────────────────────────────
@@ -19,13 +18,13 @@ pub data Row : Type 0 where
   -- what is not written, with number and place; the buffer, of so many bytes, holds what it held
   declines : Sizes → (kinds operands : List ℕ) (room number place : ℕ) → Row
 
-abbrev pub is_written : ℕ → Writing → Bool
-is_written bytes (Written n) = eqb n bytes
-is_written bytes (writing.Refused r) = false
+abbrev pub is_written : ℕ → Result ℕ Refusal → Bool
+is_written bytes (Ok n) = eqb n bytes
+is_written bytes (Err r) = false
 
-abbrev pub is_not_written : ℕ → ℕ → Writing → Bool
-is_not_written number place (Written n) = false
-is_not_written number place (writing.Refused r) = refused_by r number place
+abbrev pub is_not_written : ℕ → ℕ → Result ℕ Refusal → Bool
+is_not_written number place (Ok n) = false
+is_not_written number place (Err r) = refused_by r number place
 
 abbrev pub holds : Row → Bool
 holds (writes s kinds operands room after bytes) =

@@ -14,4 +14,4 @@
 mod entries;
 mod writer;
 
-pub use writer::{Writing, write};
+pub use writer::write;

@@ -11,7 +11,7 @@ use Rattle.stores.specs.StoreBuffer.{oldest, pending, pushed_in, take_stores}
 use Rattle.stores.proofs.Laws.Look.{headed_hidden, stored_hidden}
 use Rattle.stores.proofs.Laws.Look as parts
 use Rattle.stores.proofs.Laws.StoreBuffer.{PushFits}
-use Rattle.cas.specs.Types.{Done, Index, Look, Machine, Outcome, Push, Spacing, ThiefCall, WorkerCall}
+use Rattle.cas.specs.Types.{Done, Index, Look, Machine, Outcome, Option, Maker, StoreKind, Spacing, ThiefCall, WorkerCall}
 use Rattle.cas.specs.Worker.{worker_in_range}
 use Rattle.cas.specs.Thief.{thief_in_range}
 use Rattle.cas.specs.Machine.{done, handing, hidden, in_range, look, takes_pending, with_buffer, with_head, with_spacing, with_thief, with_worker}
@@ -37,7 +37,7 @@ module _ (m : Machine) (ready : in_range m ≡ true) where
   hidden_known = ap (λ t. hidden_if t (takes_pending m)) ready
 
   -- the worker's entry changes the pending stores, the spacing count, head and the worker's call
-  pub worker_hidden : (p : Push) (s : Spacing) (h : Index) (c : WorkerCall) → length m.buffer.stores ≡ 64 → PushFits m.sizes.buffer p m.buffer.count
+  pub worker_hidden : (p : Option (Maker × StoreKind)) (s : Spacing) (h : Index) (c : WorkerCall) → length m.buffer.stores ≡ 64 → PushFits m.sizes.buffer p m.buffer.count
       → hidden (with_worker c (with_head h (with_spacing s (with_buffer (pushed_in p m.buffer) m)))) ≡ hidden_after_store p s (index_in_range h && worker_in_range c) (look m)
   worker_hidden p s h c long fits =
       let k = bounds m ready in

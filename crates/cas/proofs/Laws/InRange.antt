@@ -14,7 +14,7 @@ use Rattle.stores.specs.Spacing.{spacing_in_range}
 use Rattle.stores.specs.StoreBuffer.{pending, push_in_range, pushed_in, store_in_range}
 use Rattle.stores.proofs.Laws.Look.{MachineBounds, drained_memory, headed_memory, machine_bounds, stored_memory, thief_call_ranged, thief_within}
 use Rattle.stores.proofs.Laws.StoreBuffer.{PushFits}
-use Rattle.cas.specs.Types.{Index, Machine, Push, Spacing, ThiefCall, WorkerCall}
+use Rattle.cas.specs.Types.{Index, Machine, Option, Maker, StoreKind, Spacing, ThiefCall, WorkerCall}
 use Rattle.cas.specs.Worker.{worker_in_range}
 use Rattle.cas.specs.Thief.{idle_thief, thief_in_range}
 use Rattle.cas.specs.Machine.{in_range, thief_call, with_buffer, with_head, with_spacing, with_thief, with_worker}
@@ -50,7 +50,7 @@ head_last false head tail stores call = refl
 
 module _ (m : Machine) (ready : in_range m ≡ true) where
   -- the worker's changes the pending stores, by the store that it makes, if it makes one, the spacing count, head and the worker's call ..
-  pub worked_parts : (p : Push) (s : Spacing) (h : Index) (c : WorkerCall)
+  pub worked_parts : (p : Option (Maker × StoreKind)) (s : Spacing) (h : Index) (c : WorkerCall)
       → in_range (with_worker c (with_head h (with_spacing s (with_buffer (pushed_in p m.buffer) m))))
       ≡ (memory_in_range m.sizes m.head m.tail (pushed_in p m.buffer) s && (index_in_range h && worker_in_range c))
   unfolding in_range memory_in_range
@@ -75,7 +75,7 @@ module _ (m : Machine) (ready : in_range m ≡ true) where
       λ j. memory && (worker j && thieves j)
 
   -- .. so that it is, where these are
-  pub worker_ranged : (p : Push) (s : Spacing) (h : Index) (c : WorkerCall) → length m.buffer.stores ≡ 64 → PushFits m.sizes.buffer p m.buffer.count
+  pub worker_ranged : (p : Option (Maker × StoreKind)) (s : Spacing) (h : Index) (c : WorkerCall) → length m.buffer.stores ≡ 64 → PushFits m.sizes.buffer p m.buffer.count
       → in_range (with_worker c (with_head h (with_spacing s (with_buffer (pushed_in p m.buffer) m)))) ≡ (spacing_in_range s && push_in_range p && (index_in_range h && worker_in_range c))
   worker_ranged p s h c long fits =
       worked_parts p s h c ∙ ap (λ t. t && (index_in_range h && worker_in_range c)) (stored_memory (bounds m ready).memory p s long fits)

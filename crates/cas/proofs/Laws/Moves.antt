@@ -12,7 +12,7 @@ use Rattle.stores.specs.Spacing.{counted_in, counted_in_or_same, spacing_after, 
 use Rattle.stores.specs.StoreBuffer.{pushed_in}
 use Rattle.stores.proofs.Laws.Spacing.{counted_in_in_range}
 use Rattle.stores.proofs.Laws.StoreBuffer.{PushFits}
-use Rattle.cas.specs.Types.{Client, Done, Entry, Drain, ClientStore, BeginPut, BeginTake, WorkerStep, BeginSteal, ThiefStep, Machine, Moved, Nothing, One, Outcome, Push, PutLoadHead, Spacing, TheClient, ThiefMove, WorkerMove}
+use Rattle.cas.specs.Types.{Client, Done, Entry, Drain, ClientStore, BeginPut, BeginTake, WorkerStep, BeginSteal, ThiefStep, Machine, Moved, None, Some, Outcome, Option, Maker, StoreKind, PutLoadHead, Spacing, TheClient, ThiefMove, WorkerMove}
 use Rattle.cas.specs.Worker.{worker_runs}
 use Rattle.cas.specs.Thief.{thief_runs}
 use Rattle.cas.specs.Machine.{done, has_room, in_range, thief_call, with_buffer, with_head, with_spacing, with_worker}
@@ -42,7 +42,7 @@ worker_entry_move m e = worker_entry (too_early m.spacing m.sizes.spacing) e (wo
 
 module _ (m : Machine) (few : m.spacing.count ≤ 4096) where
   -- a count in range is the definitions' own
-  counted : (p : Push) (f : Spacing → Done) → f (counted_in p m.spacing) ≡ f (counted_in_or_same p m.spacing)
+  counted : (p : Option (Maker × StoreKind)) (f : Spacing → Done) → f (counted_in p m.spacing) ≡ f (counted_in_or_same p m.spacing)
   counted p f = ap f (sym (counted_in_in_range p m.spacing few))
 
   -- a move that the spacing rule counts by its store, told
@@ -53,9 +53,9 @@ module _ (m : Machine) (few : m.spacing.count ≤ 4096) where
   pub worker_moves_lem : (e : Entry) → is_workers e ≡ true
       → obey_in_range m e ≡ unless_refused (worker_entry_move m e).outcome m (worked m (spacing_after e (worker_entry_move m e).push m.spacing) (worker_entry_move m e))
   worker_moves_lem ClientStore ours =
-      cond_map told_counting (worker_runs m.worker.call) refl (cond_map told_counting (has_room m) (counted (One TheClient Client) (λ s. done Moved (with_spacing s (with_buffer (pushed_in (One TheClient Client) m.buffer) m)))) refl)
+      cond_map told_counting (worker_runs m.worker.call) refl (cond_map told_counting (has_room m) (counted (Some (TheClient, Client)) (λ s. done Moved (with_spacing s (with_buffer (pushed_in (Some (TheClient, Client)) m.buffer) m)))) refl)
   worker_moves_lem (BeginPut x) ours =
-      cond_map told_counting (worker_runs m.worker.call) refl (counted Nothing (λ s. done Moved (with_worker (PutLoadHead x) (with_spacing s m))))
+      cond_map told_counting (worker_runs m.worker.call) refl (counted None (λ s. done Moved (with_worker (PutLoadHead x) (with_spacing s m))))
   worker_moves_lem BeginTake ours =
       let told_beginning : WorkerMove → Done = λ d. unless_refused d.outcome m (worked m take_begins d) in
       cond_map told_beginning (worker_runs m.worker.call) refl (cond_map told_beginning (too_early m.spacing m.sizes.spacing) refl refl)

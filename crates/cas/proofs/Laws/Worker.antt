@@ -4,7 +4,7 @@ use mathlib.Core.Bool.{true}
 use Prim.Native.Nat.{ℕ, ◌<◌}
 use Rattle.terms.proofs.Laws.Tests.{decide, either}
 use Rattle.stores.proofs.Laws.StoreBuffer.{PushFits}
-use Rattle.cas.specs.Types.{Maker, One, Outcome, StoreKind, WorkerCall, PutLoadHead, PutStoreSlot, PutStoreTail, TakeStoreTail, TakeLoadHead, TakeLoadSlot, TakeTailToHead, TakeTailPastHead, TakeSwapHead, TakeLoadLastSlot, WorkerView, WorkerMove}
+use Rattle.cas.specs.Types.{Maker, Some, Outcome, StoreKind, WorkerCall, PutLoadHead, PutStoreSlot, PutStoreTail, TakeStoreTail, TakeLoadHead, TakeLoadSlot, TakeTailToHead, TakeTailPastHead, TakeSwapHead, TakeLoadLastSlot, WorkerView, WorkerMove}
 use Rattle.cas.specs.Worker.{at_end, is_above_head, is_full, is_head, storing, worker_move}
 
 -- a step makes a store only where there is room
@@ -12,7 +12,7 @@ module _ (places n : ℕ) (v : WorkerView) (fits : v.room ≡ true → n < place
   abbrev Fits : WorkerMove → Type 0
   Fits d = PushFits places d.push n
 
-  storing_fits : (w : Maker) (k : StoreKind) (o : Outcome) (c : WorkerCall) → Fits (storing (One w k) o c v)
+  storing_fits : (w : Maker) (k : StoreKind) (o : Outcome) (c : WorkerCall) → Fits (storing (Some (w, k)) o c v)
   storing_fits w k o c = decide Fits v.room fits (λ e. tt)
 
   pub push_fits : (c : WorkerCall) → Fits (worker_move c v)

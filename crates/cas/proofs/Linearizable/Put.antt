@@ -23,7 +23,7 @@ use Rattle.claim.specs.PlainQueue.{told_put, PlainQueue, StoredTask}
 use Rattle.claim.specs.Calls.{a_put}
 use Rattle.claim.proofs.Laws.Tasks.{replies_end, replies_full, replies_stored, shows_joined}
 use Rattle.claim.proofs.Turn.{answers_at_once, moves}
-use Rattle.cas.specs.Types.{One, APut, Slot, Tail, Machine, Moved, Wait, Stored, Full, End, WorkerCall, PutLoadHead, PutStoreSlot, PutStoreTail}
+use Rattle.cas.specs.Types.{Option, Some, Maker, StoreKind, APut, Slot, Tail, Machine, Moved, Wait, Stored, Full, End, WorkerCall, PutLoadHead, PutStoreSlot, PutStoreTail}
 use Rattle.cas.specs.Worker.{answers, at_end, goes_on, is_full}
 use Rattle.cas.specs.Machine.{has_room, memory_load, thief_call, worker_load, worker_tail}
 use Rattle.cas.specs.Entries.{step_of_worker, worker_view}
@@ -94,12 +94,12 @@ module _ {n : ℕ} {m : Machine} (q : PlainQueue) where
 
   module _ (x : ℕ) (v : Sound n m (PutStoreSlot x)) where
     -- no task lies in the slot that is written
-    stores_slot : has_room m ≡ true → MoveTurn v q (making (One APut (Slot x (worker_tail m))) Moved PutStoreTail m)
+    stores_slot : has_room m ≡ true → MoveTurn v q (making (Some (APut, Slot x (worker_tail m))) Moved PutStoreTail m)
     stores_slot some-room =
         let room = ltb-true m.buffer.count m.sizes.buffer some-room in
         let seen = v.buffer.seen in
         let head = v.head.at in
-        let made = One APut (Slot x (idx seen)) in
+        let made : Option (Maker × StoreKind) = Some (APut, Slot x (idx seen)) in
         let a = slot_store (idx seen) x in
         let bound = v.buffer.bound + (seen + 1 - v.buffer.bound) in
         let low : seen < bound = omega arith in
@@ -117,7 +117,7 @@ module _ {n : ℕ} {m : Machine} (q : PlainQueue) where
         (record { holds = tt; floor = v.tail.floor; top = v.tail.top })
         (counted_in_asked made m.spacing m.sizes.spacing v.buffer.owed v.spaced)
         (counted_in_most made m.spacing n v.counted) in
-        subst (λ i. MoveTurn v q (making (One APut (Slot x i)) Moved PutStoreTail m)) (sym (seen_tail v.buffer))
+        subst (λ i. MoveTurn v q (making (Some (APut, Slot x i)) Moved PutStoreTail m)) (sym (seen_tail v.buffer))
         (alone v refl
         []
         refl
@@ -137,16 +137,16 @@ module _ {n : ℕ} {m : Machine} (q : PlainQueue) where
 
   module _ (v : Sound n m PutStoreTail) where
     -- the task in the slot of the tail joins those that stand
-    stores_tail : has_room m ≡ true → MoveTurn v q (making (One APut (Tail (next (worker_tail m)))) Stored WorkerCall.Idle m)
+    stores_tail : has_room m ≡ true → MoveTurn v q (making (Some (APut, Tail (next (worker_tail m)))) Stored WorkerCall.Idle m)
     stores_tail some-room =
         let room = ltb-true m.buffer.count m.sizes.buffer some-room in
         let seen = v.buffer.seen in
         let head = v.head.at in
-        let made = One APut (Tail (idx (seen + 1))) in
+        let made : Option (Maker × StoreKind) = Some (APut, Tail (idx (seen + 1))) in
         let a = tail_store (idx (seen + 1)) in
         let x = worker_load m (worker_tail m) in
         let t : StoredTask = record { put = q.stored; number = x } in
-        subst (λ i. MoveTurn v q (making (One APut (Tail i)) Stored WorkerCall.Idle m)) (sym (ap next (seen_tail v.buffer) ∙ idx_next seen))
+        subst (λ i. MoveTurn v q (making (Some (APut, Tail i)) Stored WorkerCall.Idle m)) (sym (ap next (seen_tail v.buffer) ∙ idx_next seen))
         (alone v refl
         (told_put x false ∷ [])
         refl

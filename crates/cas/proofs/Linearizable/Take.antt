@@ -19,7 +19,7 @@ use Rattle.claim.specs.PlainQueue.{told_take, PlainQueue}
 use Rattle.claim.specs.Calls.{a_take, only_where, told_of}
 use Rattle.claim.proofs.Laws.Tasks.{after_take, replies_empty, replies_taken, shows_taken, task_at}
 use Rattle.claim.proofs.Turn.{answers_at_once, ends, moves, takes_effect}
-use Rattle.cas.specs.Types.{Index, Machine, Moved, Wait, Task, Empty, Nothing, One, ATake, Tail, WorkerCall, TakeStoreTail, TakeLoadHead, TakeLoadSlot, TakeTailToHead, TakeTailPastHead, TakeSwapHead, TakeLoadLastSlot}
+use Rattle.cas.specs.Types.{Index, Machine, Moved, Wait, Task, Empty, None, Some, ATake, Tail, WorkerCall, TakeStoreTail, TakeLoadHead, TakeLoadSlot, TakeTailToHead, TakeTailPastHead, TakeSwapHead, TakeLoadLastSlot}
 use Rattle.cas.specs.Worker.{answers, goes_on, is_above_head, is_head}
 use Rattle.cas.specs.Machine.{has_room, memory_load, nothing_pending, thief_call, worker_load, worker_tail}
 use Rattle.cas.specs.Entries.{step_of_worker, worker_view}
@@ -36,7 +36,7 @@ module _ {n : ℕ} {m : Machine} (q : PlainQueue) where
 
   module _ (v : Sound n m TakeStoreTail) where
     -- the store is a dip of the chain, since no store is due
-    lowers : has_room m ≡ true → MoveTurn v q (making (One ATake (Tail (previous (worker_tail m)))) Moved (TakeLoadHead (previous (worker_tail m))) m)
+    lowers : has_room m ≡ true → MoveTurn v q (making (Some (ATake, Tail (previous (worker_tail m)))) Moved (TakeLoadHead (previous (worker_tail m))) m)
     lowers some-room =
         let room = ltb-true m.buffer.count m.sizes.buffer some-room in
         let seen = v.buffer.seen in
@@ -47,7 +47,7 @@ module _ {n : ℕ} {m : Machine} (q : PlainQueue) where
         (record { holds = refl; floor = omega (arith, v.tail.floor); top = omega (arith, v.tail.top) })
         (omega (arith, v.spaced.1))
         (omega (arith, v.counted)) in
-        subst (λ i. MoveTurn v q (making (One ATake (Tail i)) Moved (TakeLoadHead i) m)) (sym (ap previous (seen_tail v.buffer) ∙ idx_previous seen positive))
+        subst (λ i. MoveTurn v q (making (Some (ATake, Tail i)) Moved (TakeLoadHead i) m)) (sym (ap previous (seen_tail v.buffer) ∙ idx_previous seen positive))
         (alone v refl
         []
         refl
@@ -153,7 +153,7 @@ module _ {n : ℕ} {m : Machine} (q : PlainQueue) where
 
   module _ (h : Index) (v : Sound n m (TakeTailToHead h)) where
     -- with enough margin, head is one above the worker's tail, and the queue's tail
-    restores : has_room m ≡ true → MoveTurn v q (making (One ATake (Tail h)) Empty WorkerCall.Idle m)
+    restores : has_room m ≡ true → MoveTurn v q (making (Some (ATake, Tail h)) Empty WorkerCall.Idle m)
     restores some-room =
         let room = ltb-true m.buffer.count m.sizes.buffer some-room in
         let saw = v.head.saw in
@@ -164,7 +164,7 @@ module _ {n : ℕ} {m : Machine} (q : PlainQueue) where
         (record { holds = tt; floor = omega (arith, v.head.floor); top = omega (arith, v.head.reached, v.head.top) })
         (omega (arith, v.spaced))
         (omega (arith, v.counted)) in
-        subst (λ i. MoveTurn v q (making (One ATake (Tail i)) Empty WorkerCall.Idle m)) (sym v.tail.holds.0)
+        subst (λ i. MoveTurn v q (making (Some (ATake, Tail i)) Empty WorkerCall.Idle m)) (sym v.tail.holds.0)
         (alone v refl
         []
         refl
@@ -177,7 +177,7 @@ module _ {n : ℕ} {m : Machine} (q : PlainQueue) where
   -- ── Step 3 where t is head ──────────────────────────────────────────────────────────────────────────────────────────────────
 
   module _ (t : Index) (v : Sound n m (TakeTailPastHead t)) where
-    puts_back : has_room m ≡ true → MoveTurn v q (making (One ATake (Tail (next t))) Moved (TakeSwapHead t) m)
+    puts_back : has_room m ≡ true → MoveTurn v q (making (Some (ATake, Tail (next t))) Moved (TakeSwapHead t) m)
     puts_back some-room =
         let room = ltb-true m.buffer.count m.sizes.buffer some-room in
         let saw = v.head.saw in
@@ -188,7 +188,7 @@ module _ {n : ℕ} {m : Machine} (q : PlainQueue) where
         (record { holds = (v.tail.holds.0, refl); floor = omega (arith, v.tail.floor); top = omega (arith, v.tail.top) })
         (omega (arith, v.spaced))
         (omega (arith, v.counted)) in
-        subst (λ i. MoveTurn v q (making (One ATake (Tail i)) Moved (TakeSwapHead t) m)) (sym (ap next v.tail.holds.0 ∙ idx_next saw))
+        subst (λ i. MoveTurn v q (making (Some (ATake, Tail i)) Moved (TakeSwapHead t) m)) (sym (ap next v.tail.holds.0 ∙ idx_next saw))
         (alone v refl
         []
         refl
@@ -206,7 +206,7 @@ module _ {n : ℕ} {m : Machine} (q : PlainQueue) where
 
     -- the one task that stands is the worker's, and whoever else has loaded this head has lost it
     wins : is_head t (worker_view m (TakeSwapHead t)) ≡ true
-        → MoveTurn v q (record { push = Nothing; head = next t; call = TakeLoadLastSlot t; outcome = Moved })
+        → MoveTurn v q (record { push = None; head = next t; call = TakeLoadLastSlot t; outcome = Moved })
     wins still =
         let head = v.head.at in
         let here : v.head.saw ≡ head = eqb-true v.head.saw head (known still_is still) in

@@ -11,7 +11,7 @@ use Rattle.claim.specs.PlainQueue.{PlainQueue, Told}
 use Rattle.claim.specs.Calls.{Begun, nothing, Effect, Party, worker, thief, same_party}
 use Rattle.claim.proofs.Entries.{EntryTurn}
 use Rattle.claim.proofs.Turn.{Turn, ends, refuses, told_in}
-use Rattle.cas.specs.Types.{Done, Machine, Outcome, Push, ThiefCall, WorkerCall, WorkerMove}
+use Rattle.cas.specs.Types.{Done, Machine, Outcome, Option, Maker, StoreKind, ThiefCall, WorkerCall, WorkerMove}
 use Rattle.cas.specs.Worker.{answers, stays}
 use Rattle.cas.specs.Thief.{idle_thief}
 use Rattle.cas.specs.Machine.{worker_load, worker_tail}
@@ -40,7 +40,7 @@ abbrev pub MoveTurn : {n : ℕ} {m : Machine} {c : WorkerCall} → Sound n m c �
 MoveTurn {m = m} v q d = StepTurn v q (perform_worker m d)
 
 -- .. which may be to make a store
-abbrev pub making : Push → Outcome → WorkerCall → Machine → WorkerMove
+abbrev pub making : Option (Maker × StoreKind) → Outcome → WorkerCall → Machine → WorkerMove
 making p o c m = record { push = p; head = m.head; call = c; outcome = o }
 
 -- an entry of thief i, whose call is `own`

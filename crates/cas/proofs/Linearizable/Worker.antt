@@ -19,7 +19,7 @@ use Rattle.claim.specs.PlainQueue.{PlainQueue}
 use Rattle.claim.specs.Calls.{Begun, nothing, a_put, a_take, none}
 use Rattle.claim.proofs.Laws.Tasks.{shows_load}
 use Rattle.claim.proofs.Turn.{moves}
-use Rattle.cas.specs.Types.{Done, Index, Machine, Moved, Place, Early, Wait, Push, One, TheClient, Client, WorkerCall, PutLoadHead, PutStoreSlot, PutStoreTail, TakeStoreTail, TakeLoadHead, TakeLoadSlot, TakeTailToHead, TakeTailPastHead, TakeSwapHead, TakeLoadLastSlot}
+use Rattle.cas.specs.Types.{Done, Index, Machine, Moved, Place, Early, Wait, Option, Maker, StoreKind, Some, TheClient, Client, WorkerCall, PutLoadHead, PutStoreSlot, PutStoreTail, TakeStoreTail, TakeLoadHead, TakeLoadSlot, TakeTailToHead, TakeTailPastHead, TakeSwapHead, TakeLoadLastSlot}
 use Rattle.cas.specs.Worker.{worker_runs}
 use Rattle.cas.specs.Machine.{done, has_room, needing, nothing_pending, thief_call, with_spacing, with_store, with_worker, worker_load, worker_tail}
 use Rattle.cas.specs.Entries as entries
@@ -73,8 +73,8 @@ module _ {n : ℕ} {m : Machine} (q : PlainQueue) where
     unless_runs (TakeLoadLastSlot t) v at = runs (TakeLoadLastSlot t) v at refl
 
   module _ (v : Sound n m WorkerCall.Idle) (at : m.worker.call ≡ WorkerCall.Idle) where
-    abbrev made : Push
-    made = One TheClient Client
+    abbrev made : Option (Maker × StoreKind)
+    made = Some (TheClient, Client)
 
     stores : has_room m ≡ true → Quiet v nothing (done Moved (with_store made m))
     stores some-room =

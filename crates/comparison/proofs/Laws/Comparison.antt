@@ -1,240 +1,107 @@
--- Laws of comparing two runs: where the byte of an outcome lies, the search for the next answer, and the comparison of two runs from one answer to the next.
+-- Laws of comparing two runs: where the bytes of an answer lie, and that comparing what two iterators give, item by item, compares their lists.
 use mathlib.Core.Path.{◌≡◌, refl, ap, subst, sym, ◌∙◌}
-use mathlib.Core.Bool.{Bool, true, false, cond, ◌&&◌}
-use mathlib.Core.List.{List, [], ◌∷◌, ◌++◌}
-use Prim.Native.Nat.{ℕ, zero, suc, ◌+◌, ◌*◌, ◌-◌, ◌≤◌, ◌<◌, zero-le}
-use native.Mathlib.Nat.{le_of_eq}
+use mathlib.Core.Bool.{Bool, true, false, ◌&&◌}
+use mathlib.Core.List.{List, [], ◌∷◌}
+use Prim.Native.Nat.{ℕ, zero, suc, ◌+◌, ◌*◌, ◌≤◌, ◌<◌, zero-le}
+use native.Mathlib.Nat.{zero-add}
 use native.Mathlib.Numerals.{add-one}
 use native.Mathlib.Omega.{arith}
 use lib.Dec.{eqb}
 use lib.ListN.{length, get_or}
-use borrow.Author.Tests.{eq-eqb, eqb-false, eqb-true, ne_eqb}
-use Rattle.terms.proofs.Laws.Tests.{decide}
-use Rattle.terms.specs.Lists.{concat_map, range_from}
+use Rattle.std.proofs.Common.{Option, Some, None, MatchOption, IfSome}
+use Rattle.std.specs.Bool.{MatchBool}
+use Rattle.std.specs.Iterator.{AlwaysYields, ComparesItemsByEq, YieldsThen}
+use Rattle.std.specs.List.{AllWithin, AllZip, HoldsAt, range_with_len}
+use Rattle.std.proofs.lemmas.Iterator.{YieldsList}
+use Rattle.std.proofs.lemmas.List.FromFn.{get_or-range_with_len, length-range_with_len}
+use Rattle.terms.specs.Lists.{all, range, range_from}
 use Rattle.terms.specs.Outcome.{is_answer_number}
-use Rattle.comparison.specs.Types.{Entry, Sizes}
 use Rattle.terms.specs.Kinds.{party_number}
+use Rattle.terms.proofs.Laws.Lists.{all_below_lem, all_stops}
+use Rattle.comparison.specs.Types.{Run}
 use Rattle.comparison.specs.Alike.{same_line, same_lines}
-use Rattle.comparison.specs.Comparison.{answered, first_from, lines_from, same_for}
+use Rattle.comparison.specs.Comparison.{answered, line_at}
 use Rattle.number.specs.Number.{word_at}
 use Rattle.schedule.specs.Entries.{entry_at, entry_to_obey}
-use Rattle.schedule.specs.Trace.{Line, line_in}
+use Rattle.schedule.specs.Format.{words_in}
+use Rattle.schedule.specs.Trace.{Line}
 use Rattle.schedule.proofs.Laws.Trace.{line_in_number, line_in_value}
 
 -- ── Where the bytes lie ─────────────────────────────────────────────────────────────────────────────────────────────────────
 
--- whether an entry gets an answer for the party, by the byte of its outcome, and whose entry it is
-module _ (party : ℕ) (s : Sizes) (kinds operands trace : List ℕ) (at : ℕ) (there : at < length kinds) where
-  abbrev entry : Entry
-  entry = entry_to_obey (entry_at s kinds operands at)
+module _ (r : Run) (at : ℕ) (there : at < length r.kinds.now) where
+  -- an entry gets an answer for the party by the byte of its outcome, and by whose entry it is
+  pub answered_byte : (party : ℕ) → answered party r at
+      ≡ (is_answer_number (get_or r.trace (4 + at) 0) && eqb (party_number (entry_to_obey (entry_at r.sizes r.kinds.now (words_in r.operands.now) at))) party)
+  unfolding answered line_at
+  answered_byte party =
+      ap (λ n. is_answer_number n && eqb (party_number (entry_to_obey (entry_at r.sizes r.kinds.now (words_in r.operands.now) at))) party)
+      (line_in_number (length r.kinds.now) r.trace at there)
 
-  answered_byte : answered party s kinds operands trace at ≡ (is_answer_number (get_or trace (4 + at) 0) && eqb (party_number entry) party)
-  answered_byte = λ i. is_answer_number (line_in_number (length kinds) trace at there i) && eqb (party_number entry) party
+  pub number_byte : get_or r.trace (4 + at) 0 ≡ (line_at r at).number
+  unfolding line_at
+  number_byte = sym (line_in_number (length r.kinds.now) r.trace at there)
 
-  pub answered_none : is_answer_number (get_or trace (4 + at) 0) ≡ false → answered party s kinds operands trace at ≡ false
-  answered_none no_answer = answered_byte ∙ ap (λ b. b && eqb (party_number entry) party) no_answer
+  pub value_bytes : 4 + 5 * length r.kinds.now ≤ length r.trace → word_at r.trace (4 + length r.kinds.now + 4 * at) ≡ (line_at r at).value
+  unfolding line_at
+  value_bytes long = sym (line_in_value (length r.kinds.now) r.trace at there long)
 
-  module _ (whose : ℕ) (of : whose ≡ party_number entry) (answer : is_answer_number (get_or trace (4 + at) 0) ≡ true) where
-    by_party : answered party s kinds operands trace at ≡ eqb whose party
-    by_party = answered_byte ∙ (λ i. answer i && eqb (sym of i) party)
+-- ── Iterators ───────────────────────────────────────────────────────────────────────────────────────────────────────────────
 
-    pub answered_for : whose ≡ party → answered party s kinds operands trace at ≡ true
-    answered_for same = by_party ∙ eq-eqb whose party same
+-- the numbers of a range are those of a list
+pub range_list : (a n : ℕ) → range_with_len a n ≡ range_from a n
+range_list a zero = refl
+range_list a (suc n) = ap (λ l. a ∷ l) (rw add-one (range_list (suc a) n))
 
-    pub answered_another : (whose ≡ party → ⊥) → answered party s kinds operands trace at ≡ false
-    answered_another other = by_party ∙ ne_eqb whose party other
+-- whether all numbers below a bound passed is whether the test passes at all of them
+pub all_passed : (f : ℕ → Bool) (n : ℕ) (r : Bool)
+    → MatchBool r (AllWithin (λ x. f x ≡ true) (range_with_len 0 n) 0 (length (range_with_len 0 n))) ((k : ℕ) × (k < length (range_with_len 0 n)) × HoldsAt (λ x. f x ≡ false) (range_with_len 0 n) k)
+    → r ≡ all f (range n)
+all_passed f n true passed =
+    sym (all_below_lem f n (λ i h. sym (ap f (get_or-range_with_len 0 n i 0 h ∙ zero-add i)) ∙ passed i 0 zero-le (omega (arith, h, length-range_with_len 0 n))))
+all_passed f n false (k, inside, failed) =
+    let h : k < n = omega (arith, inside, length-range_with_len 0 n) in
+    sym (all_stops f n k h (sym (ap f (get_or-range_with_len 0 n k 0 h ∙ zero-add k)) ∙ failed 0))
 
--- whether two lines are the same, by their bytes: other numbers decide, else the values do
-module _ (n : ℕ) (trace : List ℕ) (at : ℕ) (m : ℕ) (other : List ℕ) (there : ℕ)
-    (h : at < n) (long : 4 + 5 * n ≤ length trace) (k : there < m) (other-long : 4 + 5 * m ≤ length other) where
-  same_line_bytes : same_line (line_in n trace at) (line_in m other there)
-      ≡ (eqb (get_or trace (4 + at) 0) (get_or other (4 + there) 0)
-      && eqb (word_at trace (4 + n + 4 * at)) (word_at other (4 + m + 4 * there)))
-  same_line_bytes =
-      λ i. eqb (line_in_number n trace at h i) (line_in_number m other there k i)
-      && eqb (line_in_value n trace at h long i) (line_in_value m other there k other-long i)
+-- an iterator that is to give a list: where it ends the list is empty, and what it gives is the first of the list
+module _ {S A : Type 0} (steps : S → Option A → S → Type 0) (v : A → Line) where
+  ended : (l : List Line) (s u : S) → AlwaysYields steps v s l → steps s None u → l ≡ []
+  ended [] s u e p = refl
+  ended (x ∷ l) s u e p = absurd (e.0 u p)
 
-  pub same_line_differ : (get_or trace (4 + at) 0 ≡ get_or other (4 + there) 0 → ⊥) → same_line (line_in n trace at) (line_in m other there) ≡ false
-  same_line_differ apart =
-      same_line_bytes
-      ∙ ap (λ b. b && eqb (word_at trace (4 + n + 4 * at)) (word_at other (4 + m + 4 * there))) (ne_eqb _ _ apart)
+  went : (l : List Line) (s u : S) (x : A) → AlwaysYields steps v s l → steps s (Some x) u → (rest : List Line) × (l ≡ v x ∷ rest) × AlwaysYields steps v u rest
+  went [] s u x e p = absurd (e x u p)
+  went (y ∷ l) s u x e p = (l, ap (λ z. z ∷ l) (sym (e.1 x u p).0), (e.1 x u p).1)
 
-  pub same_line_values : get_or trace (4 + at) 0 ≡ get_or other (4 + there) 0
-      → same_line (line_in n trace at) (line_in m other there)
-      ≡ eqb (word_at trace (4 + n + 4 * at)) (word_at other (4 + m + 4 * there))
-  same_line_values same =
-      same_line_bytes
-      ∙ ap (λ b. b && eqb (word_at trace (4 + n + 4 * at)) (word_at other (4 + m + 4 * there))) (eq-eqb _ _ same)
+-- what two iterators give, seen as lines and compared by them, is compared as the lists of these lines
+module _ {S T A : Type 0} (steps : S → Option A → S → Type 0) (others : T → Option A → T → Type 0) (v : A → Line) (eq : A → A → Bool) (same : (x y : A) → eq x y ≡ same_line (v x) (v y)) where
+  items_compared : (r : Bool) (s : S) (t : T) (l m : List Line) → AlwaysYields steps v s l → AlwaysYields others v t m
+      → (xs ys : List A) (o p : Option A) (u : S) (w : T) → YieldsThen steps s xs o u → YieldsThen others t ys p w → AllZip (λ x y. eq x y ≡ true) xs ys
+      → MatchOption o (MatchOption p (r ≡ true) (λ _. r ≡ false)) (λ x. (r ≡ false) × IfSome p (λ y. eq x y ≡ false)) → r ≡ same_lines l m
+  items_compared r s t l m e f [] [] None None u w a b z last =
+      let ours = ended steps v l a.0 u (subst (λ k. AlwaysYields steps v k l) a.1 e) a.2 in
+      let theirs = ended others v m b.0 w (subst (λ k. AlwaysYields others v k m) b.1 f) b.2 in
+      last ∙ sym (λ i. same_lines (ours i) (theirs i))
+  items_compared r s t l m e f [] [] None (Some y) u w a b z last =
+      let ours = ended steps v l a.0 u (subst (λ k. AlwaysYields steps v k l) a.1 e) a.2 in
+      let theirs = went others v m b.0 w y (subst (λ k. AlwaysYields others v k m) b.1 f) b.2 in
+      last ∙ sym (λ i. same_lines (ours i) (theirs.1 i))
+  items_compared r s t l m e f [] [] (Some x) None u w a b z last =
+      let ours = went steps v l a.0 u x (subst (λ k. AlwaysYields steps v k l) a.1 e) a.2 in
+      let theirs = ended others v m b.0 w (subst (λ k. AlwaysYields others v k m) b.1 f) b.2 in
+      last.0 ∙ sym (λ i. same_lines (ours.1 i) (theirs i))
+  items_compared r s t l m e f [] [] (Some x) (Some y) u w a b z last =
+      let ours = went steps v l a.0 u x (subst (λ k. AlwaysYields steps v k l) a.1 e) a.2 in
+      let theirs = went others v m b.0 w y (subst (λ k. AlwaysYields others v k m) b.1 f) b.2 in
+      last.0 ∙ sym ((λ i. same_lines (ours.1 i) (theirs.1 i)) ∙ ap (λ b. b && same_lines ours.0 theirs.0) (sym (same x y) ∙ last.1))
+  items_compared r s t l m e f [] (y ∷ ys) o p u w a b z last = absurd z
+  items_compared r s t l m e f (x ∷ xs) [] o p u w a b z last = absurd z
+  items_compared r s t l m e f (x ∷ xs) (y ∷ ys) o p u w a b z last =
+      let ours = went steps v l s a.1.0 x e a.1.1 in
+      let theirs = went others v m t b.1.0 y f b.1.1 in
+      items_compared r a.1.0 b.1.0 ours.0 theirs.0 ours.2 theirs.2 xs ys o p u w (a.0, a.1.2, a.2) (b.0, b.1.2, b.2) z.1 last
+      ∙ sym ((λ i. same_lines (ours.1 i) (theirs.1 i)) ∙ ap (λ b. b && same_lines ours.0 theirs.0) (sym (same x y) ∙ z.0))
 
--- ── The first place at which a test passes ──────────────────────────────────────────────────────────────────────────────────
-
--- how many places are left before the end
-one_more_lem : (end at : ℕ) → at < end → end - at ≡ suc (end - suc at)
-one_more_lem end at h = omega arith
-
-none_left : (end at : ℕ) → end ≤ at → end - at ≡ 0
-none_left end at h = omega arith
-
-module _ (test : ℕ → Bool) where
-  -- from a place on: that place, where the test passes at it; else the first from the next on; and the end, if no place is left
-
-  pub first_here : (end at : ℕ) → at < end → test at ≡ true → first_from test at (end - at) ≡ at
-  first_here end at h e = ap (first_from test at) (one_more_lem end at h) ∙ ap (λ b. cond b at (first_from test (suc at) (end - suc at))) e
-
-  pub first_further : (end at : ℕ) → at < end → test at ≡ false → first_from test at (end - at) ≡ first_from test (at + 1) (end - (at + 1))
-  first_further end at h e =
-      rw add-one (ap (first_from test at) (one_more_lem end at h) ∙ ap (λ b. cond b at (first_from test (suc at) (end - suc at))) e)
-
-  pub first_end : (end at : ℕ) → end ≤ at → first_from test at (end - at) ≡ at
-  first_end end at h = ap (first_from test at) (none_left end at h)
-
-  -- A place at which a search rests: the end, or one before it at which the test passes.
-  abbrev pub Rests : ℕ → ℕ → Type 0
-  Rests end at = (at ≤ end) × (at < end → test at ≡ true)
-
-  first_rests : (more at : ℕ) → Rests (at + more) (first_from test at more)
-  first_rests zero at = (omega arith, λ h. absurd (omega arith))
-  first_rests (suc more) at =
-      decide (Rests (at + suc more)) (test at) (λ e. (omega arith, λ h. e))
-      (λ e. let rests = first_rests more (suc at) in (omega (arith, rests.0), λ h. rests.1 (omega (arith, h))))
-
-  first_not_before : (more at : ℕ) → at ≤ first_from test at more
-  first_not_before zero at = omega arith
-  first_not_before (suc more) at = decide (λ k. at ≤ k) (test at) (λ e. omega arith) (λ e. omega (arith, first_not_before more (suc at)))
-
--- what a function gives at the places, of so many from a given one on, at which a test passes
-module _ {A : Type 0} (test : ℕ → Bool) (f : ℕ → A) where
-  abbrev passing : ℕ → ℕ → List A
-  passing at more = concat_map (λ i. cond (test i) (f i ∷ []) []) (range_from at more)
-
-  passing_here : (end at : ℕ) → at < end → test at ≡ true → passing at (end - at) ≡ f at ∷ passing (suc at) (end - suc at)
-  passing_here end at h e =
-      ap (passing at) (one_more_lem end at h) ∙ ap (λ b. cond b (f at ∷ []) [] ++ passing (suc at) (end - suc at)) e
-
-  passing_end : (end at : ℕ) → end ≤ at → passing at (end - at) ≡ []
-  passing_end end at h = ap (passing at) (none_left end at h)
-
-  -- the places before the first one give nothing
-  passing_first : (end more at : ℕ) → at + more ≡ end → passing at more ≡ passing (first_from test at more) (end - first_from test at more)
-  passing_first end zero at e = ap (passing at) (sym (none_left end at (omega arith)))
-  passing_first end (suc more) at e =
-      go (test at) refl (first_from test (suc at) more) (passing_first end more (suc at) (omega arith))
-    where
-      go : (b : Bool) → test at ≡ b → (k : ℕ) → passing (suc at) more ≡ passing k (end - k)
-          → cond b (f at ∷ []) [] ++ passing (suc at) more ≡ passing (cond b at k) (end - cond b at k)
-      go true p k rest =
-          let left : end - suc at ≡ more = omega arith in
-          sym (passing_here end at (omega arith) p ∙ ap (λ n. f at ∷ passing (suc at) n) left)
-      go false p k rest = rest
-
--- ── A party's answers from a place on ───────────────────────────────────────────────────────────────────────────────────────
-
-module _ (party : ℕ) (s : Sizes) (kinds operands trace : List ℕ) where
-  abbrev n : ℕ
-  n = length kinds
-
-  -- a place at which the search for the party's answers rests
-  abbrev pub AtAnswer : ℕ → Type 0
-  AtAnswer at = Rests (answered party s kinds operands trace) n at
-
-  -- The next answer from a place on: the search rests there, not before that place, and nothing is left out.
-  module _ (from at : ℕ) (found : at ≡ first_from (answered party s kinds operands trace) from (n - from)) where
-    pub next_not_before : from ≤ at
-    next_not_before = omega (arith, found, first_not_before (answered party s kinds operands trace) (n - from) from)
-
-    module _ (inside : from ≤ n) where
-      whole : from + (n - from) ≡ n
-      whole = omega arith
-
-      pub next_rests : AtAnswer at
-      next_rests =
-          subst AtAnswer (sym found)
-          (subst (λ end. Rests (answered party s kinds operands trace) end (first_from (answered party s kinds operands trace) from (n - from))) whole
-          (first_rests (answered party s kinds operands trace) (n - from) from))
-
-      pub next_lines : lines_from party s kinds operands trace from ≡ lines_from party s kinds operands trace at
-      next_lines =
-          passing_first (answered party s kinds operands trace) (line_in n trace) n (n - from) from whole ∙ ap (lines_from party s kinds operands trace) (sym found)
-
-  -- where the search rests, its answer comes first; at the end there is none
-
-  pub lines_answer : (at : ℕ) → AtAnswer at → at < n → lines_from party s kinds operands trace at ≡ line_in n trace at ∷ lines_from party s kinds operands trace (at + 1)
-  lines_answer at rests h = rw add-one (passing_here (answered party s kinds operands trace) (line_in n trace) n at h (rests.1 h))
-
-  pub lines_end : (at : ℕ) → n ≤ at → lines_from party s kinds operands trace at ≡ []
-  lines_end at h = passing_end (answered party s kinds operands trace) (line_in n trace) n at h
-
--- ── Two runs ────────────────────────────────────────────────────────────────────────────────────────────────────────────────
-
-module _ (party : ℕ) (s : Sizes) (kinds operands trace others other-operands other-trace : List ℕ) where
-  abbrev k : ℕ
-  k = length kinds
-
-  abbrev m : ℕ
-  m = length others
-
-  abbrev lines : ℕ → List Line
-  lines at = lines_from party s kinds operands trace at
-
-  abbrev other_lines : ℕ → List Line
-  other_lines there = lines_from party s others other-operands other-trace there
-
-  abbrev same : Bool
-  same = same_for s kinds operands trace others other-operands other-trace party
-
-  -- Two places that a comparison has reached: the search rests at both, and what is left from there on decides.
-  pub record Compared (at there : ℕ) : Type 0 where
-    pub rests : AtAnswer party s kinds operands trace at
-    pub other_rests : AtAnswer party s others other-operands other-trace there
-    pub decides : same ≡ same_lines (lines at) (other_lines there)
-
-  pub compared_first : (at there : ℕ) → at ≡ first_from (answered party s kinds operands trace) 0 (k - 0) → there ≡ first_from (answered party s others other-operands other-trace) 0 (m - 0)
-      → Compared at there
-  compared_first at there found other-found =
-      record {
-        rests = next_rests party s kinds operands trace 0 at found zero-le;
-        other_rests = next_rests party s others other-operands other-trace 0 there other-found zero-le;
-        decides = λ i. same_lines (next_lines party s kinds operands trace 0 at found zero-le i) (next_lines party s others other-operands other-trace 0 there other-found zero-le i);
-      }
-
-  module _ (at there : ℕ) (so_far : Compared at there) where
-    -- both have an answer: these must be the same, and then the others
-
-    module _ (h : at < k) (h' : there < m) where
-      by_line : same ≡ (same_line (line_in k trace at) (line_in m other-trace there) && same_lines (lines (at + 1)) (other_lines (there + 1)))
-      by_line =
-          so_far.decides
-          ∙ (λ i. same_lines (lines_answer party s kinds operands trace at so_far.rests h i) (lines_answer party s others other-operands other-trace there so_far.other_rests h' i))
-
-      pub compared_differ : same_line (line_in k trace at) (line_in m other-trace there) ≡ false → same ≡ false
-      compared_differ e = by_line ∙ ap (λ b. b && same_lines (lines (at + 1)) (other_lines (there + 1))) e
-
-      pub compared_next : same_line (line_in k trace at) (line_in m other-trace there) ≡ true → (at' there' : ℕ)
-          → at' ≡ first_from (answered party s kinds operands trace) (at + 1) (k - (at + 1))
-          → there' ≡ first_from (answered party s others other-operands other-trace) (there + 1) (m - (there + 1))
-          → Compared at' there'
-      compared_next e at' there' found other-found =
-          let inside : at + 1 ≤ k = omega arith in
-          let other_inside : there + 1 ≤ m = omega arith in
-          record {
-            rests = next_rests party s kinds operands trace (at + 1) at' found inside;
-            other_rests = next_rests party s others other-operands other-trace (there + 1) there' other-found other_inside;
-            decides =
-                by_line
-                ∙ (λ i. e i && same_lines (next_lines party s kinds operands trace (at + 1) at' found inside i) (next_lines party s others other-operands other-trace (there + 1) there' other-found other_inside i));
-          }
-
-    -- only the first has one
-    pub compared_fewer : at < k → m ≤ there → same ≡ false
-    compared_fewer h past = so_far.decides ∙ (λ i. same_lines (lines_answer party s kinds operands trace at so_far.rests h i) (lines_end party s others other-operands other-trace there past i))
-
-    -- the first has none: neither may the other
-    pub compared_end : k ≤ at → same ≡ eqb there m
-    compared_end h = so_far.decides ∙ go (eqb there m) refl
-      where
-        go : (b : Bool) → eqb there m ≡ b → same_lines (lines at) (other_lines there) ≡ b
-        go true e = λ i. same_lines (lines_end party s kinds operands trace at h i) (lines_end party s others other-operands other-trace there (le_of_eq (sym (eqb-true there m e))) i)
-        go false e =
-            let apart = eqb-false there m e in
-            let before : there < m = omega (arith, so_far.other_rests.0) in
-            λ i. same_lines (lines_end party s kinds operands trace at h i) (lines_answer party s others other-operands other-trace there so_far.other_rests before i)
+  pub compared : (r : Bool) {s : S} {t : T} {l m : List Line} → YieldsList steps v s l → YieldsList others v t m → ComparesItemsByEq steps (λ t u. u ≡ t) others s t eq r → r ≡ same_lines l m
+  compared r {s} {t} {l} {m} e f c =
+      items_compared r s t l m e.runs f.runs c.1 c.2 c.3 c.4 c.5 c.6 c.8 (subst (λ k. YieldsThen others k c.2 c.4 c.6) c.7 c.9) c.10 c.11

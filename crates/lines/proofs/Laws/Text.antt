@@ -1,43 +1,35 @@
 -- Laws of text that is put piece by piece, each right behind the one before: digits, and what is gathered over places.
-use mathlib.Core.Path.{◌≡◌, refl, ap, ◌∙◌}
-use mathlib.Core.Bool.{true}
+use mathlib.Core.Path.{◌≡◌, ap, ◌∙◌, subst}
 use mathlib.Core.List.{List, [], ◌∷◌, ◌++◌, append_assoc, append-nil}
-use Prim.Native.Nat.{ℕ, zero, suc, ◌+◌, ◌≤◌, ◌<◌}
-use native.Mathlib.Nat.{le_of_suc-le-suc, not-suc-le-zero}
+use Prim.Native.Nat.{ℕ, ◌+◌, ◌≤◌, ◌<◌}
 use native.Mathlib.Numerals.{add-one}
 use native.Mathlib.Omega.{arith}
-use lib.Dec.{ltb}
 use lib.ListN.{length, get_or, length-append, take}
 use lib.Seq.{take-suc}
-use borrow.Author.Tests.{ltb-true}
-use Rattle.terms.proofs.Laws.Tests.{and_left, and_right}
-use Rattle.terms.specs.Lists.{all, concat_map, range}
+use Rattle.terms.specs.Lists.{concat_map, range}
 use Rattle.terms.proofs.Laws.Sums.{concat_map-append, range_suc}
 use Rattle.number.specs.Number.{overwritten}
-use Rattle.number.proofs.Laws.Overwritten.{overwritten_behind, overwritten_nothing}
-use Rattle.lines.specs.Text.{ascii, joined, line, units}
+use Rattle.number.proofs.Laws.Overwritten.{overwritten_behind}
+use Rattle.lines.specs.Types.{Text}
+use Rattle.lines.specs.Appends.{Appends}
+use Rattle.lines.specs.Text.{ascii, joined, line}
 
--- A piece was put at a place: what is there afterwards, and where the piece ends.
-pub record Put (at : ℕ) (new before after : List ℕ) (end : ℕ) : Type 0 where
-  pub there : after ≡ overwritten at new before
-  pub ends : end ≡ at + length new
-
-pub put_nothing : (at : ℕ) (l : List ℕ) → Put at [] l l at
-put_nothing at l = record { there = overwritten_nothing at l; ends = omega arith }
-
--- A piece right behind another makes one piece with it.
-pub put_more : (at : ℕ) (new more before : List ℕ) → at ≤ length before → {mid after : List ℕ} {end last : ℕ}
-    → Put at new before mid end → last ≡ end + length more → after ≡ overwritten end more mid → Put at (new ++ more) before after last
-put_more at new more before inside p ended put =
+-- text right behind other text makes one piece with it
+pub appends_more : {m n : ℕ} {a b : List ℕ} {x y z : Text} → Appends m a x y → Appends n b y z → x.length ≤ length x.bytes → Appends (m + n) (a ++ b) x z
+appends_more {m} {n} {a} {b} {x} {y} {z} p q inside =
     record {
-      there = put ∙ (λ i. overwritten (p.ends i) more (p.there i)) ∙ overwritten_behind at new before more inside;
-      ends = ended ∙ omega (arith, p.ends, length-append new more);
+      there = q.there ∙ (λ i. overwritten (p.ends i) b (p.there i)) ∙ overwritten_behind x.length a x.bytes b inside;
+      ends = q.ends ∙ omega (arith, p.ends, length-append a b);
+      within = omega (arith, p.within, q.within, length-append a b);
     }
 
--- a piece by another name
-pub put_as : (at : ℕ) (before : List ℕ) {new other after : List ℕ} {end : ℕ} → new ≡ other → Put at new before after end → Put at other before after end
-put_as at before same p =
-    record { there = p.there ∙ ap (λ l. overwritten at l before) same; ends = p.ends ∙ ap (λ l. at + length l) same }
+-- text by another name
+pub appends_as : {m : ℕ} {a b : List ℕ} {x y : Text} → a ≡ b → Appends m a x y → Appends m b x y
+appends_as {m} {a} {b} {x} {y} same p = subst (λ l. Appends m l x y) same p
+
+-- at most so many bytes are at most more
+pub appends_within : {m n : ℕ} {a : List ℕ} {x y : Text} → m ≤ n → Appends m a x y → Appends n a x y
+appends_within {m} {n} {a} {x} {y} most p = record { there = p.there; ends = p.ends; within = omega (arith, most, p.within) }
 
 -- ── Lines ───────────────────────────────────────────────────────────────────────────────────────────────────────────────────
 
@@ -78,14 +70,3 @@ module _ {A : Type 0} (f : A → List ℕ) where
 
 pub concat_map_next : (f : ℕ → List ℕ) (n : ℕ) → concat_map f (range (n + 1)) ≡ concat_map f (range n) ++ f n
 concat_map_next f n = ap (concat_map f) (range_suc n) ∙ concat_map_snoc f (range n) n
-
--- ── Units ───────────────────────────────────────────────────────────────────────────────────────────────────────────────────
-
--- no place counts nothing
-positive : (us : List ℕ) → all (λ unit. ltb 0 unit) us ≡ true → (k : ℕ) → k < length us → 0 < get_or us k 0
-positive [] p k h = absurd (not-suc-le-zero h)
-positive (unit ∷ us) p zero h = ltb-true 0 unit (and_left (ltb 0 unit) (all (λ u. ltb 0 u) us) p)
-positive (unit ∷ us) p (suc k) h = positive us (and_right (ltb 0 unit) (all (λ u. ltb 0 u) us) p) k (le_of_suc-le-suc h)
-
-pub unit_positive : (k : ℕ) → k < 10 → 0 < get_or units k 0
-unit_positive k h = positive units refl k h

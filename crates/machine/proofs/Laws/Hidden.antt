@@ -11,7 +11,7 @@ use Rattle.stores.specs.StoreBuffer.{oldest, pending, pushed_in, take_stores}
 use Rattle.stores.proofs.Laws.Look.{headed_hidden, stored_hidden}
 use Rattle.stores.proofs.Laws.Look as parts
 use Rattle.stores.proofs.Laws.StoreBuffer.{PushFits}
-use Rattle.machine.specs.Types.{Done, Holder, Index, Look, Machine, Outcome, Push, Spacing, ThiefCall, WorkerCall}
+use Rattle.machine.specs.Types.{Done, Holder, Index, Look, Machine, Outcome, Option, Maker, StoreKind, Spacing, ThiefCall, WorkerCall}
 use Rattle.machine.specs.InRange.{in_range}
 use Rattle.machine.specs.Worker.{worker_in_range}
 use Rattle.machine.specs.Thief.{thief_in_range}
@@ -39,7 +39,7 @@ module _ (m : Machine) (ready : in_range m ≡ true) where
   hidden_known = ap (λ t. hidden_if t (takes_pending m)) ready
 
   -- the worker's entry changes the pending stores, the spacing count, the lock and the worker's call
-  pub worker_hidden : (p : Push) (s : Spacing) (l : Holder) (c : WorkerCall) → length m.buffer.stores ≡ 64 → PushFits m.sizes.buffer p m.buffer.count
+  pub worker_hidden : (p : Option (Maker × StoreKind)) (s : Spacing) (l : Holder) (c : WorkerCall) → length m.buffer.stores ≡ 64 → PushFits m.sizes.buffer p m.buffer.count
       → hidden (with_worker c (with_lock l (with_spacing s (with_buffer (pushed_in p m.buffer) m)))) ≡ hidden_after_store p s (worker_in_range c) (look m)
   unfolding in_range
   worker_hidden p s l c long fits =

@@ -5,7 +5,7 @@ use Prim.Native.Nat.{ℕ, ◌<◌}
 use Rattle.terms.proofs.Laws.Tests.{decide, either}
 use Rattle.stores.specs.Lock.{is_nobody}
 use Rattle.stores.proofs.Laws.StoreBuffer.{PushFits}
-use Rattle.machine.specs.Types.{Maker, One, Outcome, StoreKind, WorkerCall, PutLoadHead, PutStoreSlot, PutStoreTail, TakeStoreTail, TakeLoadHead, TakeLoadSlot, TakeLock, TakeReloadHead, TakeRestoreTail, TakeUnlockEmpty, TakeUnlockTask, TakeLoadLastSlot, WorkerView, WorkerMove}
+use Rattle.machine.specs.Types.{Maker, Some, Outcome, StoreKind, WorkerCall, PutLoadHead, PutStoreSlot, PutStoreTail, TakeStoreTail, TakeLoadHead, TakeLoadSlot, TakeLock, TakeReloadHead, TakeRestoreTail, TakeUnlockEmpty, TakeUnlockTask, TakeLoadLastSlot, WorkerView, WorkerMove}
 use Rattle.machine.specs.Worker.{at_end, at_or_above_head, head_is_past, is_full, storing, worker_move}
 
 -- a step makes a store only where there is room
@@ -13,7 +13,7 @@ module _ (places n : ℕ) (v : WorkerView) (fits : v.room ≡ true → n < place
   abbrev Fits : WorkerMove → Type 0
   Fits d = PushFits places d.push n
 
-  storing_fits : (w : Maker) (k : StoreKind) (o : Outcome) (c : WorkerCall) → Fits (storing (One w k) o c v)
+  storing_fits : (w : Maker) (k : StoreKind) (o : Outcome) (c : WorkerCall) → Fits (storing (Some (w, k)) o c v)
   storing_fits w k o c = decide Fits v.room fits (λ e. tt)
 
   pub push_fits : (c : WorkerCall) → Fits (worker_move c v)

@@ -21,7 +21,7 @@ use Rattle.stores.proofs.Laws.Spacing.{counted_in_asked, counted_in_most}
 use Rattle.claim.specs.PlainQueue.{told_put, PlainQueue}
 use Rattle.claim.specs.Calls.{a_put}
 use Rattle.claim.proofs.Turn.{answers_at_once, moves}
-use Rattle.machine.specs.Types.{Push, One, APut, Slot, Tail, Machine, Moved, Wait, Stored, Full, End, ThiefCall, WorkerCall, PutLoadHead, PutStoreSlot, PutStoreTail}
+use Rattle.machine.specs.Types.{Option, Maker, StoreKind, Some, APut, Slot, Tail, Machine, Moved, Wait, Stored, Full, End, ThiefCall, WorkerCall, PutLoadHead, PutStoreSlot, PutStoreTail}
 use Rattle.machine.specs.Machine.{done, has_room, worker_load, worker_tail}
 use Rattle.machine.specs.Update.{pushed, with_store, with_worker}
 use Rattle.machine.specs.Worker.{at_end, is_full}
@@ -85,8 +85,8 @@ module _ {g : Environment} {n : ℕ} {m : Machine} {p : ThiefCall} (q : PlainQue
   -- ── Step 2 ──────────────────────────────────────────────────────────────────────────────────────────────────────────────────
 
   module _ (x : ℕ) (v : Sound g n m (PutStoreSlot x) p) (at : m.worker.call ≡ PutStoreSlot x) where
-    abbrev slot_made : Push
-    slot_made = One APut (Slot x (worker_tail m))
+    abbrev slot_made : Option (Maker × StoreKind)
+    slot_made = Some (APut, Slot x (worker_tail m))
 
     -- no task lies in the slot that is written, nor one that a thief is about to load
     stores_slot : has_room m ≡ true → StepTurn v q (worker_goes_on PutStoreTail (with_store slot_made m))
@@ -141,11 +141,11 @@ module _ {g : Environment} {n : ℕ} {m : Machine} {p : ThiefCall} (q : PlainQue
   -- ── Step 3 ──────────────────────────────────────────────────────────────────────────────────────────────────────────────────
 
   module _ (v : Sound g n m PutStoreTail p) (at : m.worker.call ≡ PutStoreTail) where
-    abbrev tail_made_lem : Push
-    tail_made_lem = One APut (Tail (next (worker_tail m)))
+    abbrev tail_made : Option (Maker × StoreKind)
+    tail_made = Some (APut, Tail (next (worker_tail m)))
 
     -- the task in the slot of the tail joins those that stand
-    stores_tail : has_room m ≡ true → StepTurn v q (done Stored (with_worker WorkerCall.Idle (with_store tail_made_lem m)))
+    stores_tail : has_room m ≡ true → StepTurn v q (done Stored (with_worker WorkerCall.Idle (with_store tail_made m)))
     stores_tail some-room =
         let room = ltb-true m.buffer.count m.sizes.buffer some-room in
         let cells = inside_cells v.buffer v.sizes room in
@@ -154,15 +154,15 @@ module _ {g : Environment} {n : ℕ} {m : Machine} {p : ThiefCall} (q : PlainQue
         let a = tail_store (idx (seen + 1)) in
         let x = worker_load m (worker_tail m) in
         let sound =
-        rebuilt v m.lock (push a m.buffer) (counted_in tail_made_lem m.spacing) WorkerCall.Idle
+        rebuilt v m.lock (push a m.buffer) (counted_in tail_made m.spacing) WorkerCall.Idle
         (tail_raising v room (seen + 1) (omega arith) (omega arith))
         (record { holds_tail = tt; floor = omega arith; top = omega arith })
-        (counted_in_asked tail_made_lem m.spacing m.sizes.spacing v.buffer.owed v.spaced)
-        (counted_in_most tail_made_lem m.spacing n v.counted)
+        (counted_in_asked tail_made m.spacing m.sizes.spacing v.buffer.owed v.spaced)
+        (counted_in_most tail_made m.spacing n v.counted)
         v.lock
         in
-        pushes v Stored (told_put x false ∷ []) a (counted_in tail_made_lem m.spacing) WorkerCall.Idle
-        (ap (λ i. done Stored (after_worker m m.lock (push (tail_store i) m.buffer) (counted_in tail_made_lem m.spacing) WorkerCall.Idle))
+        pushes v Stored (told_put x false ∷ []) a (counted_in tail_made m.spacing) WorkerCall.Idle
+        (ap (λ i. done Stored (after_worker m m.lock (push (tail_store i) m.buffer) (counted_in tail_made m.spacing) WorkerCall.Idle))
         (sym (ap next (seen_tail v.buffer) ∙ idx_next seen)))
         refl
         sound

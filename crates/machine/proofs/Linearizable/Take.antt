@@ -19,7 +19,7 @@ use Rattle.stores.proofs.Laws.Spacing.{asked, counted_in_asked, counted_in_most}
 use Rattle.claim.specs.PlainQueue.{Limits, told_take, PlainQueue}
 use Rattle.claim.specs.Calls.{a_take, only_where, told_of}
 use Rattle.claim.proofs.Turn.{ends, moves, takes_effect, told_in}
-use Rattle.machine.specs.Types.{WorkerStep, Nobody, TheWorker, Index, Lock, Machine, Outcome, Moved, Wait, Task, Empty, Push, One, ATake, Tail, Store, ThiefCall, WorkerCall, TakeStoreTail, TakeLoadHead, TakeLoadSlot, TakeLock, TakeReloadHead, TakeRestoreTail, TakeUnlockEmpty, TakeUnlockTask, TakeLoadLastSlot}
+use Rattle.machine.specs.Types.{WorkerStep, Nobody, TheWorker, Index, Lock, Machine, Outcome, Moved, Wait, Task, Empty, Option, Maker, StoreKind, Some, ATake, Tail, Store, ThiefCall, WorkerCall, TakeStoreTail, TakeLoadHead, TakeLoadSlot, TakeLock, TakeReloadHead, TakeRestoreTail, TakeUnlockEmpty, TakeUnlockTask, TakeLoadLastSlot}
 use Rattle.machine.specs.Machine.{done, has_room, lock_is_free, nothing_pending, worker_load, worker_tail}
 use Rattle.machine.specs.Update.{with_lock, with_store}
 use Rattle.machine.specs.Worker.{at_or_above_head, head_is_past}
@@ -90,7 +90,7 @@ module _ {g : Environment} {n : ℕ} {m : Machine} {p : ThiefCall} (q : PlainQue
 
   module _ (v : Sound g n m TakeStoreTail p) (at : m.worker.call ≡ TakeStoreTail) where
     -- the store is a dip of the chain, since no store is due
-    lowers : has_room m ≡ true → StepTurn v q (worker_goes_on (TakeLoadHead (previous (worker_tail m))) (with_store (One ATake (Tail (previous (worker_tail m)))) m))
+    lowers : has_room m ≡ true → StepTurn v q (worker_goes_on (TakeLoadHead (previous (worker_tail m))) (with_store (Some (ATake, Tail (previous (worker_tail m)))) m))
     lowers some-room =
         let room = ltb-true m.buffer.count m.sizes.buffer some-room in
         let seen = v.buffer.seen in
@@ -187,8 +187,8 @@ module _ {g : Environment} {n : ℕ} {m : Machine} {p : ThiefCall} (q : PlainQue
   -- ── Step 5 where the task is gone ───────────────────────────────────────────────────────────────────────────────────────────
 
   module _ (t : Index) (v : Sound g n m (TakeRestoreTail t) p) (at : m.worker.call ≡ TakeRestoreTail t) where
-    abbrev made : Push
-    made = One ATake (Tail (next t))
+    abbrev made : Option (Maker × StoreKind)
+    made = Some (ATake, Tail (next t))
 
     restores : has_room m ≡ true → StepTurn v q (worker_goes_on TakeUnlockEmpty (with_store made m))
     restores some-room =

@@ -14,7 +14,7 @@ use Rattle.stores.proofs.Laws.Pending.{pushing}
 use Rattle.claim.specs.PlainQueue.{PlainQueue}
 use Rattle.claim.specs.Calls.{none}
 use Rattle.claim.proofs.Turn.{moves}
-use Rattle.machine.specs.Types.{Done, Entry, ClientStore, BeginPut, BeginTake, Push, One, TheClient, Client, Machine, Moved, Place, Early, Wait, ThiefCall, WorkerCall, PutLoadHead, PutStoreSlot, PutStoreTail, TakeStoreTail, TakeLoadHead, TakeLoadSlot, TakeLock, TakeReloadHead, TakeRestoreTail, TakeUnlockEmpty, TakeUnlockTask, TakeLoadLastSlot}
+use Rattle.machine.specs.Types.{Done, Entry, ClientStore, BeginPut, BeginTake, Option, Maker, StoreKind, Some, TheClient, Client, Machine, Moved, Place, Early, Wait, ThiefCall, WorkerCall, PutLoadHead, PutStoreSlot, PutStoreTail, TakeStoreTail, TakeLoadHead, TakeLoadSlot, TakeLock, TakeReloadHead, TakeRestoreTail, TakeUnlockEmpty, TakeUnlockTask, TakeLoadLastSlot}
 use Rattle.machine.specs.Machine.{done, has_room, needing}
 use Rattle.machine.specs.Update.{with_spacing, with_store}
 use Rattle.machine.specs.Worker.{worker_runs}
@@ -72,8 +72,8 @@ module _ {g : Environment} {n : ℕ} {m : Machine} {p : ThiefCall} (q : PlainQue
     unless_runs (TakeLoadLastSlot t) v at = runs (TakeLoadLastSlot t) v at refl
 
   module _ (v : Sound g n m WorkerCall.Idle p) (at : m.worker.call ≡ WorkerCall.Idle) where
-    abbrev made : Push
-    made = One TheClient Client
+    abbrev made : Option (Maker × StoreKind)
+    made = Some (TheClient, Client)
 
     stores : has_room m ≡ true → Quiet v ClientStore (done Moved (with_store made m))
     stores some-room =

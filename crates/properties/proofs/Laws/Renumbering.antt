@@ -16,7 +16,7 @@ use Rattle.stores.specs.Spacing.{counted_in}
 use Rattle.stores.specs.StoreBuffer.{client_store, drop_oldest, newest_tail, oldest, pending, pushed_in, slot_after, slots_after, store_in_range, tail_after}
 use Rattle.claim.specs.Implementation.{Implementation}
 use Rattle.claim.specs.Run.{outcomes_of}
-use Rattle.properties.specs.Types.{Entry, Drain, ClientStore, BeginPut, BeginTake, WorkerStep, BeginSteal, ThiefStep, Index, Load, NoSlot, SlotOf, Sizes, Store, StoreBuffer, StoreKind, Client, Tail, Slot, Push, Nothing, One, Spacing}
+use Rattle.properties.specs.Types.{Entry, Drain, ClientStore, BeginPut, BeginTake, WorkerStep, BeginSteal, ThiefStep, Index, Option, None, Some, Sizes, Store, StoreBuffer, StoreKind, Client, Tail, Slot, Maker, Spacing}
 use Rattle.properties.specs.Renumbering.{BlindToNumbers, renumber_entry, renumber_outcome}
 
 -- a choice by a test that comes out the same
@@ -37,9 +37,9 @@ module _ (f : ℕ → ℕ) where
   abbrev pub renumber_buffer : StoreBuffer → StoreBuffer
   renumber_buffer b = record { stores = map renumber_store b.stores; count = b.count }
 
-  abbrev pub renumber_push : Push → Push
-  renumber_push Nothing = Nothing
-  renumber_push (One w k) = One w (renumber_kind k)
+  abbrev pub renumber_push : Option (Maker × StoreKind) → Option (Maker × StoreKind)
+  renumber_push None = None
+  renumber_push (Some (w, k)) = Some (w, renumber_kind k)
 
   -- ── What looks at no number comes out the same ──────────────────────────────────────────────────────────────────────────────
 
@@ -92,14 +92,14 @@ module _ (f : ℕ → ℕ) where
   -- ── What an entry changes comes out numbered anew ───────────────────────────────────────────────────────────────────────────
 
   -- a store becomes pending, if there is one
-  pub push_renumber : (p : Push) (b : StoreBuffer) → pushed_in (renumber_push p) (renumber_buffer b) ≡ renumber_buffer (pushed_in p b)
-  push_renumber Nothing b = refl
-  push_renumber (One w k) b = rw (map-set renumber_store b.stores b.count (record { kind = k }))
+  pub push_renumber : (p : Option (Maker × StoreKind)) (b : StoreBuffer) → pushed_in (renumber_push p) (renumber_buffer b) ≡ renumber_buffer (pushed_in p b)
+  push_renumber None b = refl
+  push_renumber (Some (w, k)) b = rw (map-set renumber_store b.stores b.count (record { kind = k }))
 
   -- .. and counts by who made it
-  pub count_renumber : (p : Push) (s : Spacing) → counted_in (renumber_push p) s ≡ counted_in p s
-  count_renumber Nothing s = refl
-  count_renumber (One w k) s = refl
+  pub count_renumber : (p : Option (Maker × StoreKind)) (s : Spacing) → counted_in (renumber_push p) s ≡ counted_in p s
+  count_renumber None s = refl
+  count_renumber (Some (w, k)) s = refl
 
   -- a drain: what the oldest store leaves in the slots, the oldest store, and the others
 
@@ -145,9 +145,9 @@ module _ (f : ℕ → ℕ) where
         (foldl_map renumber_store f _ _ (λ v s. slot_renumber n (slot_of n i) v s.kind) (memory_load n slots i) (pending b))
 
     -- .. and what is loaded where a step may load from no slot, which is 0
-    pub loads_renumber : (g h : Load → ℕ) → g NoSlot ≡ 0 → h NoSlot ≡ 0 → ((i : Index) → g (SlotOf i) ≡ f (h (SlotOf i))) → (l : Load) → g l ≡ f (h l)
-    loads_renumber g h none none' load NoSlot = none ∙ sym zero-kept ∙ ap f (sym none')
-    loads_renumber g h none none' load (SlotOf i) = load i
+    pub loads_renumber : (g h : Option Index → ℕ) → g None ≡ 0 → h None ≡ 0 → ((i : Index) → g (Some i) ≡ f (h (Some i))) → (l : Option Index) → g l ≡ f (h l)
+    loads_renumber g h none none' load None = none ∙ sym zero-kept ∙ ap f (sym none')
+    loads_renumber g h none none' load (Some i) = load i
 
 -- ── A queue ─────────────────────────────────────────────────────────────────────────────────────────────────────────────────
 

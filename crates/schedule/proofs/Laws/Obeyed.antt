@@ -1,4 +1,4 @@
--- Laws of a run that has reached a place: what machine, totals, largest number and trace buffer are there; that it is so at first, and with each entry more; and what it says at the end. They hold of any queue, from any of its machines on.
+-- Laws of a run that has reached a place: what machine, summary and trace buffer are there; that it is so at first, and with each entry more; and what it says at the end. They hold of any queue, from any of its machines on.
 use mathlib.Core.Path.{◌≡◌, refl, ap, sym, ◌∙◌}
 use mathlib.Core.Bool.{Bool, true, false, cond}
 use mathlib.Core.List.{List, [], ◌∷◌, ◌++◌}
@@ -13,10 +13,10 @@ use Rattle.terms.specs.Tally.{counted, none_counted}
 use Rattle.terms.proofs.Laws.Largest.{largest_more}
 use Rattle.terms.proofs.Laws.Runs.{after_more, each_more}
 use Rattle.terms.proofs.Laws.Tests.{either}
-use Rattle.schedule.specs.Types.{Entry, Outcome, Sizes, Summary, Tally}
+use Rattle.schedule.specs.Types.{Entry, Outcome, Sizes, Summary}
 use Rattle.schedule.specs.Entries.{entry_at, entry_to_obey}
 use Rattle.number.specs.Number.{little_endian, overwritten}
-use Rattle.schedule.specs.Run.{entries_of, outcomes_from_by, summary_from_by, trace_put}
+use Rattle.schedule.specs.Run.{entries_of, trace_put}
 use Rattle.schedule.specs.Totals.{summary_by, tally_of}
 use Rattle.schedule.specs.Trace.{trace_fits, trace_of}
 use Rattle.schedule.proofs.Laws.Run.{entries_up_to, entries_up_to_more, fits_room, length_entries_up_to, length-outcomes_of, tally_of_more}
@@ -26,11 +26,10 @@ use Rattle.schedule.proofs.Laws.Trace.{trace_so_far, trace_so_far_all, trace_so_
 abbrev pub outcomes_up_to : {M : Type 0} → Implementation M Entry → M → Sizes → List ℕ → List ℕ → ℕ → List Outcome
 outcomes_up_to b m s kinds operands at = outcomes_of b m (entries_up_to s kinds operands at)
 
--- machine, totals, largest number and trace buffer after so many entries; l is the buffer as it was lent, and stays so if the trace does not fit
-pub record Obeyed {M : Type 0} (b : Implementation M Entry) (m : M) (s : Sizes) (kinds operands l trace : List ℕ) (machine : M) (tally : Tally) (hidden at : ℕ) : Type 0 where
+-- machine, summary and trace buffer after so many entries; l is the buffer as it was lent, and stays so if the trace does not fit
+pub record Obeyed {M : Type 0} (b : Implementation M Entry) (m : M) (s : Sizes) (kinds operands l trace : List ℕ) (machine : M) (summary : Summary) (at : ℕ) : Type 0 where
   pub machine_then : machine ≡ machine_after b m (entries_up_to s kinds operands at)
-  pub tally_then : tally ≡ tally_of (outcomes_up_to b m s kinds operands at)
-  pub hidden_then : hidden ≡ largest (hidden_of b m (entries_up_to s kinds operands at))
+  pub summary_then : summary ≡ summary_by b m (entries_up_to s kinds operands at)
   pub trace_then : trace ≡ cond (trace_fits (length kinds) (length l)) (trace_so_far (length kinds) (outcomes_up_to b m s kinds operands at) l) l
   pub as_long : length trace ≡ length l
   pub within : at ≤ length kinds
@@ -52,30 +51,28 @@ trace_more n l os o more trace after true fits so_far put =
 trace_more n l os o more trace after false fits so_far put = put ∙ so_far
 
 module _ {M : Type 0} {b : Implementation M Entry} {m : M} {s : Sizes} {kinds operands l : List ℕ} where
-  pub obeyed_none : {machine : M} {tally : Tally} → machine ≡ m → tally ≡ none_counted → Obeyed b m s kinds operands l l machine tally 0 0
+  pub obeyed_none : {machine : M} {summary : Summary} → machine ≡ m → summary ≡ record { tally = none_counted; hidden = 0 } → Obeyed b m s kinds operands l l machine summary 0
   obeyed_none same none =
       record {
         machine_then = same;
-        tally_then = none;
-        hidden_then = refl;
+        summary_then = none;
         trace_then = either (λ t. l ≡ t) (trace_fits (length kinds) (length l)) (trace_so_far_none (length kinds) l) refl;
         as_long = refl;
         within = omega arith;
       }
 
-  module _ {trace : List ℕ} {machine : M} {tally : Tally} {hidden at : ℕ} (so_far : Obeyed b m s kinds operands l trace machine tally hidden at) where
+  module _ {trace : List ℕ} {machine : M} {summary : Summary} {at : ℕ} (so_far : Obeyed b m s kinds operands l trace machine summary at) where
     -- what the step and the two stores of an entry leave
     pub obeyed_more : at < length kinds
         → {e : Entry} → e ≡ entry_to_obey (entry_at s kinds operands at)
         → {next : M} → next ≡ b.next machine e
         → {outcome : Outcome} → outcome ≡ b.outcome machine e
         → {number : ℕ} → number ≡ b.hidden machine e
-        → {most : ℕ} → most ≡ max hidden number
-        → {totals : Tally} → totals ≡ counted tally outcome
+        → {told : Summary} → told ≡ record { tally = counted summary.tally outcome; hidden = max summary.hidden number }
         → {after : List ℕ} → length after ≡ length trace
         → after ≡ cond (trace_fits (length kinds) (length trace)) (overwritten (4 + length kinds + 4 * at) (little_endian 4 (value_of outcome)) (overwritten (4 + at) (number_of outcome ∷ []) trace)) trace
-        → Obeyed b m s kinds operands l after next totals most (at + 1)
-    obeyed_more inside meant by_next {outcome} by-outcome {number} by_number by-comparing by-counting {after} kept put =
+        → Obeyed b m s kinds operands l after next told (at + 1)
+    obeyed_more inside meant by_next {outcome} by-outcome {number} by_number by_telling {after} kept put =
         let n = length kinds in
         let es = entries_up_to s kinds operands at in
         let os = outcomes_of b m es in
@@ -86,6 +83,9 @@ module _ {M : Type 0} {b : Implementation M Entry} {m : M} {s : Sizes} {kinds op
         let number_then : number ≡ b.hidden (machine_after b m es) here = by_number ∙ (λ i. b.hidden (so_far.machine_then i) (meant i)) in
         let entries-more = entries_up_to_more s kinds operands at in
         let outcomes_more : os ++ (o ∷ []) ≡ outcomes_up_to b m s kinds operands (at + 1) = sym (ap (outcomes_of b m) entries-more ∙ each_more b.next b.outcome m es here) in
+        let tally_more : counted (tally_of os) o ≡ tally_of (outcomes_up_to b m s kinds operands (at + 1)) = sym (tally_of_more os o) ∙ ap tally_of outcomes_more in
+        let hidden_more : max (largest (hidden_of b m es)) (b.hidden (machine_after b m es) here) ≡ largest (hidden_of b m (entries_up_to s kinds operands (at + 1))) =
+        sym (ap (λ es. largest (hidden_of b m es)) entries-more ∙ ap largest (each_more b.next b.hidden m es here) ∙ largest_more (hidden_of b m es) _) in
         let count : at ≡ length os = sym (length_outcomes_up_to b m s kinds operands at) in
         let long = so_far.as_long in
         let put_here : stored n os o trace after (trace_fits n (length l)) =
@@ -93,11 +93,10 @@ module _ {M : Type 0} {b : Implementation M Entry} {m : M} {s : Sizes} {kinds op
         ∙ (λ i. cond (trace_fits n (long i)) (overwritten (4 + n + 4 * count i) (little_endian 4 (value_of (outcome_then i))) (overwritten (4 + count i) (number_of (outcome_then i) ∷ []) trace)) trace) in
         record {
           machine_then = by_next ∙ (λ i. b.next (so_far.machine_then i) (meant i)) ∙ sym (ap (machine_after b m) entries-more ∙ after_more b.next m es here);
-          tally_then = by-counting ∙ (λ i. counted (so_far.tally_then i) (outcome_then i)) ∙ sym (tally_of_more os o) ∙ ap tally_of outcomes_more;
-          hidden_then =
-              by-comparing
-              ∙ (λ i. max (so_far.hidden_then i) (number_then i))
-              ∙ sym (ap (λ es. largest (hidden_of b m es)) entries-more ∙ ap largest (each_more b.next b.hidden m es here) ∙ largest_more (hidden_of b m es) _);
+          summary_then =
+              by_telling
+              ∙ (λ i. record { tally = counted (so_far.summary_then i).tally (outcome_then i); hidden = max (so_far.summary_then i).hidden (number_then i) })
+              ∙ (λ i. record { tally = tally_more i; hidden = hidden_more i });
           trace_then =
               trace_more n l os o (omega arith) trace after (trace_fits n (length l)) refl so_far.trace_then put_here
               ∙ ap (λ os. cond (trace_fits n (length l)) (trace_so_far n os l) l) outcomes_more;
@@ -108,11 +107,11 @@ module _ {M : Type 0} {b : Implementation M Entry} {m : M} {s : Sizes} {kinds op
     -- at the end the number of entries is all that the trace lacks
     pub obeyed_all : length kinds ≤ at
         → {after : List ℕ} → after ≡ cond (trace_fits (length kinds) (length trace)) (overwritten 0 (little_endian 4 (length kinds)) trace) trace
-        → (record { tally = tally; hidden = hidden } ≡ summary_by b m (entries_of s kinds operands)) × (after ≡ trace_put (outcomes_of b m (entries_of s kinds operands)) l)
+        → (summary ≡ summary_by b m (entries_of s kinds operands)) × (after ≡ trace_put (outcomes_of b m (entries_of s kinds operands)) l)
     obeyed_all end put =
         let n = length kinds in
         let last : at ≡ n = omega (arith, so_far.within) in (
-          (λ i. record { tally = so_far.tally_then i; hidden = so_far.hidden_then i }) ∙ ap (λ at. summary_by b m (entries_up_to s kinds operands at)) last,
+          so_far.summary_then ∙ ap (λ at. summary_by b m (entries_up_to s kinds operands at)) last,
           put
               ∙ ap (λ k. cond (trace_fits n k) (overwritten 0 (little_endian 4 n) trace) trace) so_far.as_long
               ∙ whole (trace_fits n (length l)) refl (so_far.trace_then ∙ ap (λ at. cond (trace_fits n (length l)) (trace_so_far n (outcomes_up_to b m s kinds operands at) l) l) last)
@@ -132,13 +131,3 @@ module _ {M : Type 0} {b : Implementation M Entry} {m : M} {s : Sizes} {kinds op
             ∙ (λ i. overwritten 0 (little_endian 4 (count i)) (trace_so_far (count i) os l))
             ∙ trace_so_far_all os l (omega (arith, fits_room (length kinds) (length l) fits, count))
         whole false fits so_far = so_far
-
--- what a machine does that is fresh, it does by the sizes that it is made of
-pub from_fresh : {M : Type 0} (b : Implementation M Entry) (sizes : M → Sizes) (kinds operands l : List ℕ) {m : M} {s : Sizes} → m ≡ b.fresh s → sizes (b.fresh s) ≡ s → {t : Summary} {after : List ℕ}
-    → (t ≡ summary_by b m (entries_of (sizes m) kinds operands)) × (after ≡ trace_put (outcomes_of b m (entries_of (sizes m) kinds operands)) l)
-    → (t ≡ summary_from_by b s kinds operands) × (after ≡ trace_put (outcomes_from_by b s kinds operands) l)
-from_fresh b sizes kinds operands l made its obeyed =
-    let from = ap sizes made ∙ its in (
-      obeyed.0 ∙ (λ i. summary_by b (made i) (entries_of (from i) kinds operands)),
-      obeyed.1 ∙ (λ i. trace_put (outcomes_of b (made i) (entries_of (from i) kinds operands)) l),
-    )

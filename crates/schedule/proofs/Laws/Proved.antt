@@ -4,8 +4,8 @@ use mathlib.Core.Bool.{true, false}
 use mathlib.Core.List.{List}
 use Prim.Native.Nat.{◌≤◌}
 use lib.ListN.{length}
+use Rattle.std.proofs.Common.{Err}
 use Rattle.terms.specs.Sizes.{enough_margin, sizes_in_range}
-use Rattle.terms.specs.declared.kinds.Meaning.TheVariants.{Refused}
 use Rattle.terms.specs.declared.outcome.Outcome.TheVariants.{Wait}
 use Rattle.claim.specs.Implementation.{Implementation}
 use Rattle.claim.specs.Linearizable.{Linearizable}
@@ -25,7 +25,7 @@ pub record Proved {M : Type 0} (b : Implementation M Entry) : Type 0 where
   -- memory never lags by more than the needed margin
   pub lag : HiddenWithinNeeded b
   -- where no entry is allowed, every machine answers 7
-  pub no_entry : (m : M) (r : Refusal) → b.outcome m (entry_to_obey (Refused r)) ≡ Wait
+  pub no_entry : (m : M) (r : Refusal) → b.outcome m (entry_to_obey (Err r)) ≡ Wait
   -- a fresh machine with sizes out of range answers 7 to every entry ..
   pub out_waits : (s : Sizes) → sizes_in_range s ≡ false → (e : Entry) → b.outcome (b.fresh s) e ≡ Wait
   -- .. stays as it is ..

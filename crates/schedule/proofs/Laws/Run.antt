@@ -7,10 +7,10 @@ use native.Mathlib.Nat.{mod-eq_of_lt, mod-lt, zero-add}
 use native.Mathlib.Omega.{arith}
 use lib.Dec.{leb, lit<, ltb}
 use lib.ListN.{length, drop, get_or, length-map, length-replicate, get_or-eq_default, replicate}
-use borrow.Author.Tests.{le-leb, le-ltb, leb-false, leb-true, lt-ltb, ltb-false, ltb-true}
+use borrow.Author.Tests.{le-leb, le-ltb, leb-true, lt-ltb, ltb-false, ltb-true}
+use Rattle.std.proofs.Common.{Result, Ok, Err}
 use Rattle.terms.specs.Outcome.{value_of}
 use Rattle.terms.specs.declared.outcome.Outcome.TheVariants.{Moved, Place, Early, Wait, Stored, Task, Empty, Abort, Full, End}
-use Rattle.terms.specs.declared.kinds.Meaning.TheVariants.{Refused}
 use Rattle.terms.specs.Kinds.{entry_of, operand_of, party_number}
 use Rattle.terms.specs.Sizes.{sizes_in_range}
 use Rattle.terms.specs.Tally.{counted, none_counted}
@@ -23,9 +23,7 @@ use Rattle.terms.proofs.Laws.Lists.{all_get_d}
 use Rattle.terms.proofs.Laws.Runs.{length_each}
 use Rattle.terms.proofs.Laws.Sums.{length_range, range_suc}
 use Rattle.schedule.specs.Types.{BeginPut, BeginSteal, BeginTake, ClientStore, Drain, Entry, Refusal, ThiefStep, WorkerStep}
-use Rattle.schedule.specs.Types.{Accepted, Allowed, Meaning, Outcome, Passed, Ran, Reading, Room, Running, Sizes, Summary, Tally}
-use Rattle.schedule.specs.declared.reader.Reading.TheVariants as reading
-use Rattle.schedule.specs.declared.runner.Running.TheVariants as running
+use Rattle.schedule.specs.Types.{Outcome, Room, Sizes, Summary, Tally}
 use Rattle.schedule.specs.Entries.{check_entries, entry_at, entry_to_obey}
 use Rattle.schedule.specs.Format.{all_below, entries_in, kinds_in, operands_in, sizes_in, words_in}
 use Rattle.schedule.specs.Reader.{kind_part, operand_part, read_file}
@@ -35,7 +33,7 @@ use Rattle.schedule.specs.Totals.{counted_from, summary_by, tally_of}
 use Rattle.schedule.specs.Trace.{line_in, line_of, trace_fits, trace_length, trace_of}
 use Rattle.schedule.proofs.Laws.Bytes.{all_below_drop}
 use Rattle.schedule.proofs.Laws.Check.{few_entries, get_d_map-range_from, ranges_sizes}
-use Rattle.schedule.proofs.Laws.Entries.{allowed_party, check_allowed, entries_passed, entry_as_read, not_allowed}
+use Rattle.schedule.proofs.Laws.Entries.{allowed_party, check_allowed, entries_passed, entry_as_read}
 use Rattle.schedule.proofs.Laws.Format.{decode_below, length-kinds_in, operands_in_words}
 use Rattle.schedule.proofs.Laws.Proved.{Proved}
 use Rattle.schedule.proofs.Laws.Trace.{line_in_written}
@@ -72,18 +70,18 @@ module _ (s : Sizes) (kinds operands : List ℕ) where
   entry_there at inside = get_d_map-range_from obeyed_at Drain 0 (length kinds) at inside ∙ ap obeyed_at (zero-add at)
 
   -- where all entries passed, each is allowed
-  pub all_allowed : check_entries s kinds operands ≡ Passed → (at : ℕ) → at < length kinds → (e : Entry) × (entry_at s kinds operands at ≡ Allowed e)
+  pub all_allowed : check_entries s kinds operands ≡ Ok tt → (at : ℕ) → at < length kinds → (e : Entry) × (entry_at s kinds operands at ≡ Ok e)
   all_allowed passed at there = check_allowed (entry_at s kinds operands at) (entries_passed s kinds operands passed at there)
 
   -- .. and no party is beyond the last thief; past the end there is the worker's
-  pub party_there : check_entries s kinds operands ≡ Passed → (at : ℕ) → party_number (get_or (entries_of s kinds operands) at Drain) ≤ s.thieves
+  pub party_there : check_entries s kinds operands ≡ Ok tt → (at : ℕ) → party_number (get_or (entries_of s kinds operands) at Drain) ≤ s.thieves
   party_there passed at = go (ltb at (length kinds)) refl
     where
-      met : (m : Meaning) (e : Entry) → entry_of s.thieves at (get_or kinds at 0) (get_or operands at 0) ≡ m → m ≡ Allowed e → party_number e ≤ s.thieves
+      met : (m : Result Entry Refusal) (e : Entry) → entry_of s.thieves at (get_or kinds at 0) (get_or operands at 0) ≡ m → m ≡ Ok e → party_number e ≤ s.thieves
       met m e read is = allowed_party s.thieves at (get_or kinds at 0) (get_or operands at 0) e (read ∙ is)
 
-      allowed : (e : Entry) → entry_at s kinds operands at ≡ Allowed e → party_number e ≤ s.thieves
-      allowed e = either (λ m. m ≡ Allowed e → party_number e ≤ s.thieves) (ltb at (length kinds) && ltb at (length operands)) (met _ e refl) (λ is. absurd (not_allowed (sym is)))
+      allowed : (e : Entry) → entry_at s kinds operands at ≡ Ok e → party_number e ≤ s.thieves
+      allowed e = either (λ m. m ≡ Ok e → party_number e ≤ s.thieves) (ltb at (length kinds) && ltb at (length operands)) (met _ e refl) (λ is. cc)
 
       go : (inside : Bool) → ltb at (length kinds) ≡ inside → party_number (get_or (entries_of s kinds operands) at Drain) ≤ s.thieves
       go true p =
@@ -96,7 +94,7 @@ module _ (s : Sizes) (kinds operands : List ℕ) where
           omega (arith, ap party_number past)
 
 -- an accepted file has as many entries as it says
-pub schedule_length : (file : List ℕ) (s : Sizes) (n : ℕ) → read_file file ≡ Accepted s n → length (schedule_in file) ≡ n
+pub schedule_length : (file : List ℕ) (s : Sizes) (n : ℕ) → read_file file ≡ Ok (s, n) → length (schedule_in file) ≡ n
 schedule_length file s n accepted =
     let kinds = kinds_in (entries_in file) file in
     length_entries_up_to (sizes_in file) kinds (operands_in (entries_in file) file) (length kinds)
@@ -111,7 +109,7 @@ module _ {M : Type 0} (b : Implementation M Entry) where
   pub length-outcomes_from : (s : Sizes) (kinds operands : List ℕ) → length (outcomes_from_by b s kinds operands) ≡ length kinds
   length-outcomes_from s kinds operands = length-outcomes_of (b.fresh s) (entries_of s kinds operands) ∙ length_entries_up_to s kinds operands (length kinds)
 
-  pub outcomes_counted : (file : List ℕ) (s : Sizes) (n : ℕ) → read_file file ≡ Accepted s n → length (outcomes_in_by b file) ≡ n
+  pub outcomes_counted : (file : List ℕ) (s : Sizes) (n : ℕ) → read_file file ≡ Ok (s, n) → length (outcomes_in_by b file) ≡ n
   outcomes_counted file s n accepted = length-outcomes_of (b.fresh (sizes_in file)) (schedule_in file) ∙ schedule_length file s n accepted
 
 -- ── Values fit four bytes ───────────────────────────────────────────────────────────────────────────────────────────────────
@@ -175,11 +173,11 @@ operand_fits (ThiefStep i) fits = refl
 entries_fit : (s : Sizes) (kinds operands : List ℕ) → all_below 4294967296 operands ≡ true → all fitting (entries_of s kinds operands) ≡ true
 entries_fit s kinds operands below = each (range (length kinds))
   where
-    meant : (at : ℕ) (m : Meaning) → entry_of s.thieves at (get_or kinds at 0) (get_or operands at 0) ≡ m → fitting (entry_to_obey m) ≡ true
-    meant at (Allowed e) p =
+    meant : (at : ℕ) (m : Result Entry Refusal) → entry_of s.thieves at (get_or kinds at 0) (get_or operands at 0) ≡ m → fitting (entry_to_obey m) ≡ true
+    meant at (Ok e) p =
         let operand : operand_of e ≡ get_or operands at 0 = (entry_as_read s.thieves at (get_or kinds at 0) (get_or operands at 0) e p).1 in
         operand_fits e (ap (λ n. ltb n 4294967296) operand ∙ all_get_d (λ n. ltb n 4294967296) operands at 0 refl below)
-    meant at (Refused r) p = refl
+    meant at (Err r) p = refl
 
     each : (l : List ℕ) → all fitting (map (λ at. entry_to_obey (entry_at s kinds operands at)) l) ≡ true
     each [] = refl
@@ -224,11 +222,11 @@ pub record PartsOf (file : List ℕ) (s : Sizes) (kinds operands : List ℕ) (n 
   pub ranged : sizes_in_range s ≡ true
   pub few : n ≤ 4096
   pub many : length kinds ≡ n
-  pub allowed : check_entries s kinds (words_in operands) ≡ Passed
+  pub allowed : check_entries s kinds (words_in operands) ≡ Ok tt
   pub entries : entries_of s kinds (words_in operands) ≡ schedule_in file
 
 -- such are the parts that are cut out by its reading
-pub parts_obeyed : (file : List ℕ) {s : Sizes} {n : ℕ} {kinds operands : List ℕ} → read_file file ≡ Accepted s n → kinds ≡ kind_part file (Accepted s n) → operands ≡ operand_part file (Accepted s n)
+pub parts_obeyed : (file : List ℕ) {s : Sizes} {n : ℕ} {kinds operands : List ℕ} → read_file file ≡ Ok (s, n) → kinds ≡ kind_part file (Ok (s, n)) → operands ≡ operand_part file (Ok (s, n))
     → PartsOf file s kinds operands n
 parts_obeyed file {s} {n} {kinds} {operands} accepted as-kinds as-operands =
     let read = accepted_readable file s n accepted in
@@ -256,40 +254,36 @@ module _ {M : Type 0} (b : Implementation M Entry) {file : List ℕ} {s : Sizes}
 
 -- ── What decides a run ──────────────────────────────────────────────────────────────────────────────────────────────────────
 
--- a file is not both run and refused
-pub not_both_run : {t : Summary} {r : Refusal} → running.Refused r ≡ Ran t → ⊥
-not_both_run e = let clash : ◌≡◌ {A = ℕ} 0 1 = cc in omega arith
-
 module _ {M : Type 0} (b : Implementation M Entry) (file : List ℕ) (room : ℕ) where
-  pub run_refused : (r : Refusal) → read_file file ≡ reading.Refused r → run_file_by b file room ≡ running.Refused r
+  pub run_refused : (r : Refusal) → read_file file ≡ Err r → run_file_by b file room ≡ Err r
   run_refused r told = ap (running_by b file room) told
 
-  module _ (s : Sizes) (n : ℕ) (told : read_file file ≡ Accepted s n) where
-    pub run_without_room : room < trace_length n → run_file_by b file room ≡ running.Refused Room
-    run_without_room small = ap (running_by b file room) told ∙ by_test (running.Refused Room) (Ran (summary_in_by b file)) (lt-ltb room (trace_length n) small)
+  module _ (s : Sizes) (n : ℕ) (told : read_file file ≡ Ok (s, n)) where
+    pub run_without_room : room < trace_length n → run_file_by b file room ≡ Err Room
+    run_without_room small = ap (running_by b file room) told ∙ by_test (Err Room) (Ok (summary_in_by b file)) (lt-ltb room (trace_length n) small)
 
-    pub run_with_room : trace_length n ≤ room → run_file_by b file room ≡ Ran (summary_in_by b file)
-    run_with_room fits = ap (running_by b file room) told ∙ by_test (running.Refused Room) (Ran (summary_in_by b file)) (le-ltb room (trace_length n) fits)
+    pub run_with_room : trace_length n ≤ room → run_file_by b file room ≡ Ok (summary_in_by b file)
+    run_with_room fits = ap (running_by b file room) told ∙ by_test (Err Room) (Ok (summary_in_by b file)) (le-ltb room (trace_length n) fits)
 
   -- what was run was accepted
-  pub ran_accepted : (t : Summary) → run_file_by b file room ≡ Ran t → read_file file ≡ Accepted (sizes_in file) (entries_in file)
+  pub ran_accepted : (t : Summary) → run_file_by b file room ≡ Ok t → read_file file ≡ Ok (sizes_in file, entries_in file)
   ran_accepted t e = go (read_file file) refl e
     where
-      go : (r : Reading) → read_file file ≡ r → running_by b file room r ≡ Ran t → read_file file ≡ Accepted (sizes_in file) (entries_in file)
-      go (Accepted s n) read ran = let known = accepted_readable file s n read in read ∙ (λ i. Accepted (known.0 i) (known.1.0 i))
-      go (reading.Refused r) read ran = absurd (not_both_run ran)
+      go : (r : Result (Sizes × ℕ) Refusal) → read_file file ≡ r → running_by b file room r ≡ Ok t → read_file file ≡ Ok (sizes_in file, entries_in file)
+      go (Ok (s, n)) read ran = let known = accepted_readable file s n read in read ∙ (λ i. Ok (known.0 i, known.1.0 i))
+      go (Err r) read ran = cc
 
   -- .. and what is told of it is told of the file's entries
-  pub ran_summary : (t : Summary) → run_file_by b file room ≡ Ran t → summary_in_by b file ≡ t
+  pub ran_summary : (t : Summary) → run_file_by b file room ≡ Ok t → summary_in_by b file ≡ t
   ran_summary t e = go (read_file file) e
     where
-      summary_of_lem : Running → Summary
-      summary_of_lem (Ran t) = t
-      summary_of_lem (running.Refused r) = summary_in_by b file
+      summary_of_lem : Result Summary Refusal → Summary
+      summary_of_lem (Ok t) = t
+      summary_of_lem (Err r) = summary_in_by b file
 
-      go : (r : Reading) → running_by b file room r ≡ Ran t → summary_in_by b file ≡ t
-      go (Accepted s n) ran = sym (either (λ r. summary_of_lem r ≡ summary_in_by b file) (ltb room (trace_length n)) refl refl) ∙ ap summary_of_lem ran
-      go (reading.Refused r) ran = ap summary_of_lem ran
+      go : (r : Result (Sizes × ℕ) Refusal) → running_by b file room r ≡ Ok t → summary_in_by b file ≡ t
+      go (Ok (s, n)) ran = sym (either (λ r. summary_of_lem r ≡ summary_in_by b file) (ltb room (trace_length n)) refl refl) ∙ ap summary_of_lem ran
+      go (Err r) ran = ap summary_of_lem ran
 
 -- ── A trace that fits ───────────────────────────────────────────────────────────────────────────────────────────────────────
 
@@ -298,15 +292,8 @@ module _ {M : Type 0} (b : Implementation M Entry) (file : List ℕ) (room : ℕ
 pub trace_fits_lem : (n room : ℕ) → n ≤ 4096 → trace_length n ≤ room → trace_fits n room ≡ true
 trace_fits_lem n room few enough = λ i. le-leb n 4096 few i && le-leb (trace_length n) room enough i
 
-pub fits_few : (n room : ℕ) → trace_fits n room ≡ true → n ≤ 4096
-fits_few n room fits = leb-true n 4096 (and_left (leb n 4096) (leb (trace_length n) room) fits)
-
 pub fits_room : (n room : ℕ) → trace_fits n room ≡ true → trace_length n ≤ room
 fits_room n room fits = leb-true (trace_length n) room (and_right (leb n 4096) (leb (trace_length n) room) fits)
-
-pub fits_not : (n room : ℕ) → n ≤ 4096 → trace_fits n room ≡ false → room < trace_length n
-fits_not n room few none =
-    leb-false (trace_length n) room (ap (λ b. b && leb (trace_length n) room) (sym (le-leb n 4096 few)) ∙ none)
 
 -- the longest trace has room for that of any run
 pub longest_fits : (n : ℕ) → n ≤ 4096 → trace_fits n (length (replicate {A = ℕ} 20484 0)) ≡ true
@@ -317,7 +304,7 @@ pub trace_put_lem : (os : List Outcome) (buffer : List ℕ) → trace_fits (leng
 trace_put_lem os buffer fits = by_test _ _ fits
 
 -- .. as that of an accepted file does where there is room for it ..
-pub trace_after_run : {M : Type 0} (b : Implementation M Entry) (file trace : List ℕ) {s : Sizes} {n : ℕ} → read_file file ≡ Accepted s n → trace_fits n (length trace) ≡ true
+pub trace_after_run : {M : Type 0} (b : Implementation M Entry) (file trace : List ℕ) {s : Sizes} {n : ℕ} → read_file file ≡ Ok (s, n) → trace_fits n (length trace) ≡ true
     → trace_after_by b file trace ≡ trace_put (outcomes_in_by b file) trace
 trace_after_run b file trace {s} {n} accepted fits =
     let os = outcomes_in_by b file in

@@ -1,4 +1,5 @@
 -- Laws of the check of the blocks: the marks say which numbers are used, and the first wrong begin put decides.
+use Rattle.std.proofs.Common.{Result, Ok, Err}
 use mathlib.Core.Path.{◌≡◌, refl, ap, sym, ◌∙◌}
 use mathlib.Core.Bool.{Bool, true, false, cond, not, ◌||◌}
 use mathlib.Core.List.{List, [], ◌∷◌, ◌++◌, append-nil, map}
@@ -17,7 +18,7 @@ use Rattle.terms.proofs.Laws.Sums.{adds_occurrences, concat_map-append}
 use Rattle.properties.specs.ExactlyOnce.{number_put}
 use Rattle.schedule.specs.Check.{fail_if, first}
 use Rattle.schedule.proofs.Laws.Check.{fail_if_passed, first_more, first_stops, range_passed}
-use Rattle.share_sheet.specs.Types.{BeginPut, BeginSteal, BeginTake, Block, Check, ClientStore, Drain, Entry, Failed, Passed, ThiefStep, WorkerStep}
+use Rattle.share_sheet.specs.Types.{BeginPut, BeginSteal, BeginTake, Block, ClientStore, Drain, Entry, ThiefStep, WorkerStep, Refusal}
 use Rattle.share_sheet.specs.Filling.{marked, wrong_by_marks}
 use Rattle.share_sheet.specs.Sheet.{check_blocks, puts_up_to, wrong_block, wrong_put}
 
@@ -88,16 +89,16 @@ marks_more marks used (ThiefStep i) m = rw (append-nil used) m
 -- ── The loop ────────────────────────────────────────────────────────────────────────────────────────────────────────────────
 
 module _ (count : ℕ) (es : List Entry) where
-  abbrev pub check : ℕ → Check
+  abbrev pub check : ℕ → Result Unit Refusal
   check at = fail_if (wrong_block count es at) (Block at)
 
   -- where none is wrong, each is right
-  pub right_at : check_blocks count es ≡ Passed → (at : ℕ) → at < length es → wrong_block count es at ≡ false
+  pub right_at : check_blocks count es ≡ Ok tt → (at : ℕ) → at < length es → wrong_block count es at ≡ false
   right_at right at there = fail_if_passed (wrong_block count es at) (Block at) (range_passed check (length es) right at there)
 
   -- no entry before a place is wrong, and the marks are of what these use
   pub record RightBefore (marks : List Bool) (at : ℕ) : Type 0 where
-    pub right : first (map check (range at)) ≡ Passed
+    pub right : first (map check (range at)) ≡ Ok tt
     pub marks_then : Marks marks (puts_up_to at es)
 
   pub right_none : RightBefore (replicate 256 false) 0
@@ -108,7 +109,7 @@ module _ (count : ℕ) (es : List Entry) where
     found : wrong ≡ wrong_block count es at
     found = tested ∙ wrong_marked count few marks (puts_up_to at es) so_far.marks_then e ∙ ap (wrong_put count (puts_up_to at es)) entry
 
-    pub wrong_decides : wrong ≡ true → Failed (Block at) ≡ check_blocks count es
+    pub wrong_decides : wrong ≡ true → Err (Block at) ≡ check_blocks count es
     wrong_decides is = sym (first_stops check (length es) at (Block at) there so_far.right (ap (λ b. fail_if b (Block at)) (sym found ∙ is)))
 
     pub right_more : wrong ≡ false → (after : List Bool) → after ≡ cond wrong marks (marked (number_put e) marks) → RightBefore after (at + 1)
@@ -120,5 +121,5 @@ module _ (count : ℕ) (es : List Entry) where
               (marks_more marks (puts_up_to at es) e so_far.marks_then);
         }
 
-  pub right_all : (marks : List Bool) (at : ℕ) → at ≡ length es → RightBefore marks at → Passed ≡ check_blocks count es
+  pub right_all : (marks : List Bool) (at : ℕ) → at ≡ length es → RightBefore marks at → (Ok tt) ≡ check_blocks count es
   right_all marks at end so_far = sym (ap (λ n. first (map check (range n))) (sym end) ∙ so_far.right)

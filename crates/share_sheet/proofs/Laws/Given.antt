@@ -1,4 +1,5 @@
 -- Laws of what a run gives, where each put is of a block of its own: from demand 3, each TASK is of a block that was put and STORED before, and no two are of one.
+use Rattle.std.proofs.Common.{Ok}
 use mathlib.Core.Path.{◌≡◌, refl, ap, sym, ◌∙◌, subst}
 use mathlib.Core.Bool.{Bool, true, false, cond, not, ◌||◌, false≢true}
 use mathlib.Core.List.{List, [], ◌∷◌, ◌++◌, append-nil, map}
@@ -27,7 +28,7 @@ use Rattle.properties.proofs.Laws.ExactlyOnce.{stored_put}
 use Rattle.schedule.specs.Format.{all_below}
 use Rattle.schedule.proofs.Laws.Bytes.{each_below}
 use Rattle.schedule.proofs.Laws.Run.{length-outcomes_of}
-use Rattle.share_sheet.specs.Types.{BeginPut, BeginSteal, BeginTake, ClientStore, Drain, Entry, Passed, Sizes, ThiefStep, WorkerStep}
+use Rattle.share_sheet.specs.Types.{BeginPut, BeginSteal, BeginTake, ClientStore, Drain, Entry, Sizes, ThiefStep, WorkerStep}
 use Rattle.share_sheet.specs.Types.{Outcome, Moved, Place, Early, Wait, Stored, Task, Empty, Abort, Full, End}
 use Rattle.share_sheet.specs.Filling.{GivenOnce}
 use Rattle.share_sheet.specs.Sheet.{check_blocks, gives, puts_up_to, wrong_put}
@@ -95,7 +96,7 @@ stored_same running (WorkerStep ∷ es) (o ∷ os) (suc at) other = ap (λ l. co
 stored_same running (BeginSteal i ∷ es) (o ∷ os) (suc at) other = stored_same running es os at other
 stored_same running (ThiefStep i ∷ es) (o ∷ os) (suc at) other = stored_same running es os at other
 
-module _ (s : Sizes) (es : List Entry) (count : ℕ) (ranged : sizes_in_range s ≡ true) (enough : enough_margin s ≡ true) (short : length es ≤ 4096) (right : check_blocks count es ≡ Passed) where
+module _ (s : Sizes) (es : List Entry) (count : ℕ) (ranged : sizes_in_range s ≡ true) (enough : enough_margin s ≡ true) (short : length es ≤ 4096) (right : check_blocks count es ≡ Ok tt) where
   abbrev os : List Outcome
   os = outcomes_of (fresh s) es
 

@@ -1,4 +1,5 @@
 -- Laws of sheets: which check decides, what has passed all of them, and that three parts written one behind the other are the sheet.
+use Rattle.std.proofs.Common.{Result, Ok, Err}
 use mathlib.Core.Path.{◌≡◌, refl, ap, sym, ◌∙◌}
 use mathlib.Core.Bool.{true, false, not}
 use mathlib.Core.List.{List, [], ◌∷◌, ◌++◌, map}
@@ -21,13 +22,11 @@ use Rattle.schedule.specs.Entries.{check_entries}
 use Rattle.schedule.specs.Format.{all_below, arrays, encode, entries_in, sizes_in}
 use Rattle.schedule.specs.Reader.{read_file, reading_checks, reading_of}
 use Rattle.schedule.specs.Run.{entries_of, schedule_in}
-use Rattle.schedule.specs.declared.reader.Reading.TheVariants as reading
 use Rattle.schedule.proofs.Laws.Check.{fail_if_passed, first_append, first_append_failed, first_passed}
 use Rattle.schedule.proofs.Laws.Format.{encode_arrays, length_encode, total_replicate}
 use Rattle.schedule.proofs.Laws.Run.{party_there}
 use Rattle.schedule.proofs.Laws.Reader.{Readable, accepted_readable, readable_accepted}
-use Rattle.share_sheet.specs.Types.{Accepted, Check, Drain, Entry, Failed, Margin, Outcome, Passed, Reading, Refusal, Room, Size, Sizes, Written}
-use Rattle.share_sheet.specs.declared.sheet.Sheet.TheVariants as sheet
+use Rattle.share_sheet.specs.Types.{Drain, Entry, Margin, Outcome, Refusal, Room, Size, Sizes}
 use Rattle.share_sheet.specs.Filling.{PartiesFit}
 use Rattle.share_sheet.specs.Sheet.{SheetLength, answer_by, blocks, check_blocks, checks_after_reading, giving, parties_of, places_of, share_by, share_of, make_sheet, sheet_checks, sheet_layout, sheet_length, sheet_of}
 
@@ -35,24 +34,24 @@ use Rattle.share_sheet.specs.Sheet.{SheetLength, answer_by, blocks, check_blocks
 
 -- which check decides, where one fails
 module _ (s : Sizes) (es : List Entry) (count room : ℕ) where
-  pub count_decides : within 1 255 count ≡ false → first (checks_after_reading s es count room) ≡ Failed (Size 7)
+  pub count_decides : within 1 255 count ≡ false → first (checks_after_reading s es count room) ≡ Err (Size 7)
   count_decides out = λ i. first (fail_if (not (out i)) (Size 7) ∷ drop 1 (checks_after_reading s es count room))
 
   module _ (inside : within 1 255 count ≡ true) where
-    pub margin_decides : enough_margin s ≡ false → first (checks_after_reading s es count room) ≡ Failed Margin
+    pub margin_decides : enough_margin s ≡ false → first (checks_after_reading s es count room) ≡ Err Margin
     margin_decides few = λ i. first (fail_if (not (inside i)) (Size 7) ∷ fail_if (not (few i)) Margin ∷ drop 2 (checks_after_reading s es count room))
 
     module _ (enough : enough_margin s ≡ true) where
-      pub block_decides : (r : Refusal) → check_blocks count es ≡ Failed r → first (checks_after_reading s es count room) ≡ Failed r
+      pub block_decides : (r : Refusal) → check_blocks count es ≡ Err r → first (checks_after_reading s es count room) ≡ Err r
       block_decides r wrong = λ i. first (fail_if (not (inside i)) (Size 7) ∷ fail_if (not (enough i)) Margin ∷ wrong i ∷ drop 3 (checks_after_reading s es count room))
 
-      module _ (right : check_blocks count es ≡ Passed) where
-        pub room_decides : room < sheet_length count → first (checks_after_reading s es count room) ≡ Failed Room
+      module _ (right : check_blocks count es ≡ Ok tt) where
+        pub room_decides : room < sheet_length count → first (checks_after_reading s es count room) ≡ Err Room
         room_decides under =
             let small = lt-ltb room (sheet_length count) under in
             λ i. first (fail_if (not (inside i)) (Size 7) ∷ fail_if (not (enough i)) Margin ∷ right i ∷ fail_if (small i) Room ∷ [])
 
-        pub none_fails : sheet_length count ≤ room → first (checks_after_reading s es count room) ≡ Passed
+        pub none_fails : sheet_length count ≤ room → first (checks_after_reading s es count room) ≡ Ok tt
         none_fails fits =
             let large = le-ltb room (sheet_length count) fits in
             λ i. first (fail_if (not (inside i)) (Size 7) ∷ fail_if (not (enough i)) Margin ∷ right i ∷ fail_if (large i) Room ∷ [])
@@ -61,10 +60,10 @@ module _ (s : Sizes) (es : List Entry) (count room : ℕ) where
 pub record Fit (s : Sizes) (es : List Entry) (count room : ℕ) : Type 0 where
   pub inside : within 1 255 count ≡ true
   pub enough : enough_margin s ≡ true
-  pub right : check_blocks count es ≡ Passed
+  pub right : check_blocks count es ≡ Ok tt
   pub fits : sheet_length count ≤ room
 
-pub passed_fit : (s : Sizes) (es : List Entry) (count room : ℕ) → first (checks_after_reading s es count room) ≡ Passed → Fit s es count room
+pub passed_fit : (s : Sizes) (es : List Entry) (count room : ℕ) → first (checks_after_reading s es count room) ≡ Ok tt → Fit s es count room
 passed_fit s es count room passed =
     let each = first_passed (checks_after_reading s es count room) passed in
     record {
@@ -75,7 +74,7 @@ passed_fit s es count room passed =
     }
 
 -- no party is beyond the eighth thief
-pub party_most : (s : Sizes) (kinds operands : List ℕ) → sizes_in_range s ≡ true → check_entries s kinds operands ≡ Passed → (at : ℕ) → party_number (get_or (entries_of s kinds operands) at Drain) ≤ 8
+pub party_most : (s : Sizes) (kinds operands : List ℕ) → sizes_in_range s ≡ true → check_entries s kinds operands ≡ Ok tt → (at : ℕ) → party_number (get_or (entries_of s kinds operands) at Drain) ≤ 8
 party_most s kinds operands ranged allowed at = omega (arith, party_there s kinds operands allowed at, (sizes_bounds s ranged).thieves_most)
 
 -- ── Bytes ───────────────────────────────────────────────────────────────────────────────────────────────────────────────────
@@ -167,47 +166,47 @@ length-sheet_of count es os =
 
 module _ (file : List ℕ) (count room : ℕ) where
   -- a file that is refused is refused so here
-  pub file_decides : (r : Refusal) → read_file file ≡ reading.Refused r → make_sheet file count room ≡ sheet.Refused r
+  pub file_decides : (r : Refusal) → read_file file ≡ Err r → make_sheet file count room ≡ Err r
   file_decides r refused =
       let found = first_of (first (reading_checks file)) refl refused in
       ap (answer_by count) (first_append_failed (reading_checks file) (checks_after_reading (sizes_in file) (schedule_in file) count room) r found)
     where
-      first_of : (c : Check) → first (reading_checks file) ≡ c → reading_of file c ≡ reading.Refused r → first (reading_checks file) ≡ Failed r
-      first_of Passed is e = absurd (let clash : ◌≡◌ {A = ℕ} 0 1 = cc in omega arith)
-      first_of (Failed q) is e = let same : q ≡ r = cc in is ∙ ap Failed same
+      first_of : (c : Result Unit Refusal) → first (reading_checks file) ≡ c → reading_of file c ≡ Err r → first (reading_checks file) ≡ Err r
+      first_of (Ok _) is e = cc
+      first_of (Err q) is e = let same : q ≡ r = cc in is ∙ ap Err same
 
   -- of one that is read, the checks behind decide
-  pub behind_decides : (s : Sizes) (n : ℕ) → read_file file ≡ Accepted s n → make_sheet file count room ≡ answer_by count (first (checks_after_reading s (schedule_in file) count room))
+  pub behind_decides : (s : Sizes) (n : ℕ) → read_file file ≡ Ok (s, n) → make_sheet file count room ≡ answer_by count (first (checks_after_reading s (schedule_in file) count room))
   behind_decides s n accepted =
       let passed = all_passed (first (reading_checks file)) refl accepted in
       ap (answer_by count) (first_append (reading_checks file) (checks_after_reading (sizes_in file) (schedule_in file) count room) passed)
       ∙ ap (λ t. answer_by count (first (checks_after_reading t (schedule_in file) count room))) (sym (accepted_readable file s n accepted).0)
     where
-      all_passed : (c : Check) → first (reading_checks file) ≡ c → reading_of file c ≡ Accepted s n → first (reading_checks file) ≡ Passed
-      all_passed Passed is e = is
-      all_passed (Failed q) is e = absurd (let clash : ◌≡◌ {A = ℕ} 0 1 = cc in omega arith)
+      all_passed : (c : Result Unit Refusal) → first (reading_checks file) ≡ c → reading_of file c ≡ Ok (s, n) → first (reading_checks file) ≡ Ok tt
+      all_passed (Ok _) is e = is
+      all_passed (Err q) is e = cc
 
-  pub written_length : (n : ℕ) → make_sheet file count room ≡ Written n → sheet_length count ≡ n
+  pub written_length : (n : ℕ) → make_sheet file count room ≡ Ok n → sheet_length count ≡ n
   written_length n written = go (first (sheet_checks file count room)) written
     where
-      go : (c : Check) → answer_by count c ≡ Written n → sheet_length count ≡ n
-      go Passed e = cc
-      go (Failed r) e = absurd (let clash : ◌≡◌ {A = ℕ} 0 1 = cc in omega arith)
+      go : (c : Result Unit Refusal) → answer_by count c ≡ Ok n → sheet_length count ≡ n
+      go (Ok _) e = cc
+      go (Err r) e = cc
 
   -- what a file is of which a sheet is written
   pub record Checked : Type 0 where
     pub readable : Readable file
     pub behind : Fit (sizes_in file) (schedule_in file) count room
 
-  pub written_checked : (n : ℕ) → make_sheet file count room ≡ Written n → Checked
+  pub written_checked : (n : ℕ) → make_sheet file count room ≡ Ok n → Checked
   written_checked n written = go (read_file file) refl
     where
-      fit_of : (c : Check) → first (checks_after_reading (sizes_in file) (schedule_in file) count room) ≡ c → answer_by count c ≡ Written n → Fit (sizes_in file) (schedule_in file) count room
-      fit_of Passed passed e = passed_fit (sizes_in file) (schedule_in file) count room passed
-      fit_of (Failed r) failed e = absurd (let clash : ◌≡◌ {A = ℕ} 0 1 = cc in omega arith)
+      fit_of : (c : Result Unit Refusal) → first (checks_after_reading (sizes_in file) (schedule_in file) count room) ≡ c → answer_by count c ≡ Ok n → Fit (sizes_in file) (schedule_in file) count room
+      fit_of (Ok _) passed e = passed_fit (sizes_in file) (schedule_in file) count room passed
+      fit_of (Err r) failed e = cc
 
-      go : (answer : Reading) → read_file file ≡ answer → Checked
-      go (reading.Refused r) refused = absurd (let both = sym (file_decides r refused) ∙ written in let clash : ◌≡◌ {A = ℕ} 0 1 = cc in omega arith)
-      go (Accepted s m) accepted =
+      go : (answer : Result (Sizes × ℕ) Refusal) → read_file file ≡ answer → Checked
+      go (Err r) refused = let both = sym (file_decides r refused) ∙ written in cc
+      go (Ok (s, m)) accepted =
           let readable = (accepted_readable file s m accepted).1.1 in
           record { readable = readable; behind = fit_of _ refl (sym (behind_decides (sizes_in file) (entries_in file) (readable_accepted file readable)) ∙ written) }

@@ -12,7 +12,7 @@ use Rattle.terms.specs.Sizes.{sizes_in_range}
 use Rattle.terms.proofs.Laws.Lists.{&&-true, all_get_d}
 use Rattle.terms.proofs.Laws.Sizes.{SizeBounds, sizes_bounds}
 use Rattle.terms.proofs.Laws.Tests.{and_left, and_right}
-use Rattle.stores.specs.Types.{Index, Look, Nothing, One, Push, Sizes, Spacing, StoreBuffer}
+use Rattle.stores.specs.Types.{Index, Look, None, Some, Option, Maker, StoreKind, Sizes, Spacing, StoreBuffer}
 use Rattle.stores.specs.Index.{index_in_range, slot_of}
 use Rattle.stores.specs.Spacing.{spacing_in_range}
 use Rattle.stores.specs.StoreBuffer.{drop_oldest, lowers_tail, newest_tail, oldest, pending, push_in_range, push_lowers_tail, pushed_in, store_in_range, tail_after, take_stores}
@@ -105,7 +105,7 @@ module _ {z : Sizes} {h t : Index} {b : StoreBuffer} {p : Spacing} (k : MemoryBo
   -- ── After an entry: what it changes decides whether the parts are still in range ────────────────────────────────────────────
 
   -- the worker's changes the pending stores, by the store that it makes, if it makes one, and the spacing count
-  pub stored_memory : (made : Push) (s : Spacing) → length b.stores ≡ 64 → PushFits z.buffer made b.count
+  pub stored_memory : (made : Option (Maker × StoreKind)) (s : Spacing) → length b.stores ≡ 64 → PushFits z.buffer made b.count
       → memory_in_range z h t (pushed_in made b) s ≡ (spacing_in_range s && push_in_range made)
   unfolding memory_in_range
   stored_memory made s long fits =
@@ -145,7 +145,7 @@ module _ {z : Sizes} {h t : Index} {b : StoreBuffer} {p : Spacing} (k : MemoryBo
     looked = λ i. record { ranged = k.ready i && called i; tail = newest_tail t b; hidden = hidden_if (k.ready i && called i) (take_stores t (pending b)) }
 
     -- one more, if the store that the worker's entry makes lowers the tail
-    pub stored_hidden : (made : Push) (s : Spacing) (call : Bool) → length b.stores ≡ 64 → PushFits z.buffer made b.count
+    pub stored_hidden : (made : Option (Maker × StoreKind)) (s : Spacing) (call : Bool) → length b.stores ≡ 64 → PushFits z.buffer made b.count
         → hidden_if (memory_in_range z h t (pushed_in made b) s && call) (take_stores t (pending (pushed_in made b))) ≡ hidden_after_store made s call (look_at z h t b p calls)
     stored_hidden made s call long fits =
         let still = stored_memory made s long fits in
@@ -155,13 +155,13 @@ module _ {z : Sizes} {h t : Index} {b : StoreBuffer} {p : Spacing} (k : MemoryBo
         n : ℕ
         n = take_stores t (pending b)
 
-        more : (made : Push) → PushFits z.buffer made b.count
+        more : (made : Option (Maker × StoreKind)) → PushFits z.buffer made b.count
             → take_stores t (pending (pushed_in made b)) ≡ cond (push_lowers_tail (newest_tail t b) made && ltb n 64) (n + 1) n
-        more Nothing fits = refl
-        more (One w a) fits =
+        more None fits = refl
+        more (Some (w, a)) fits =
             let few = take_stores_most t (pending b) in
             let free : n < 64 = omega (arith, length-take b.count b.stores, k.sizes.buffer_most) in
-            rw (lt-ltb n 64 free, &&-true) (pushed_takes t b long (One w a) (omega (arith, k.sizes.buffer_most)))
+            rw (lt-ltb n 64 free, &&-true) (pushed_takes t b long (Some (w, a)) (omega (arith, k.sizes.buffer_most)))
 
     -- as many after another head
     pub headed_hidden : (g : Index) (call : Bool)

@@ -1,36 +1,36 @@
 -- Laws of the store buffer: what push and drain do to the pending list, and to what the worker loads. They ask only that the pending
 -- stores lie within the array, and know nothing of the queue's calls.
 use mathlib.Core.Path.{◌≡◌, refl, ap, sym, ◌∙◌}
-use mathlib.Core.Bool.{Bool, true, false, false≢true, cond, ◌&&◌, ◌||◌}
+use mathlib.Core.Bool.{Bool, true, false, false≢true, cond, ◌&&◌}
 use mathlib.Core.List.{List, [], ◌∷◌, ◌++◌, foldl, foldl-append}
 use Prim.Native.Nat.{ℕ, suc, ◌+◌, ◌-◌, ◌≤◌, ◌<◌, zero-le}
 use native.Mathlib.Nat.{add-zero}
 use native.Mathlib.Numerals.{add-one}
 use native.Mathlib.Omega.{arith}
-use lib.Dec.{ltb}
-use lib.ListN.{length, get_or, drop, take, length-drop, length-set, length-take}
-use lib.Seq.{take_at, take-suc, take-suc-set}
-use borrow.Author.Tests.{le-ltb, lt-leb, ltb-false, ltb-true}
+use lib.ListN.{length, get_or, drop, length-drop, length-set, length-take}
+use lib.Seq.{take_at, take-suc-set}
+use borrow.Author.Tests.{le-ltb, lt-leb}
+use Rattle.std.specs.Prelude.{is_some}
 use Rattle.terms.specs.Lists.{all}
 use Rattle.terms.proofs.Laws.Tests.{and_left, and_right, by_test}
-use Rattle.terms.proofs.Laws.Lists.{&&-true, all_snoc, get_d_set, take_first, take_whole}
-use Rattle.stores.specs.Types.{Index, Push, Nothing, One, Scan, Store, StoreBuffer, StoreKind, Client, Tail, Slot}
+use Rattle.terms.proofs.Laws.Lists.{&&-true, all_snoc, get_d_set, take_first}
+use Rattle.stores.specs.Types.{Index, Option, Maker, StoreKind, None, Some, Scan, Store, StoreBuffer, Client, Tail, Slot}
 use Rattle.stores.specs.Index.{index_in_range, slot_of}
 use Rattle.stores.specs.StoreBuffer.{client_store, drop_oldest, drop_oldest_or_same, lowers_tail, newest_in_slot, newest_tail, oldest, pending, push, push_in_range, push_lowers_tail, push_or_same, pushed_in, pushed_or_same, scan, scanned, slot_after, slots_after, store_in_range, tail_after, take_stores}
 
 -- the store that a step makes, if it makes one, has a place behind n stores, where there are so many
-abbrev pub PushFits : ℕ → Push → ℕ → Type 0
-PushFits places Nothing n = Unit {0}
-PushFits places (One w k) n = n < places
+abbrev pub PushFits : ℕ → Option (Maker × StoreKind) → ℕ → Type 0
+PushFits places None n = Unit {0}
+PushFits places (Some (w, k)) n = n < places
 
-pub fits_more : {places more : ℕ} (p : Push) (n : ℕ) → places ≤ more → PushFits places p n → PushFits more p n
-fits_more Nothing n most fits = tt
-fits_more (One w k) n most fits = omega arith
+pub fits_more : {places more : ℕ} (p : Option (Maker × StoreKind)) (n : ℕ) → places ≤ more → PushFits places p n → PushFits more p n
+fits_more None n most fits = tt
+fits_more (Some (w, k)) n most fits = omega arith
 
 -- with it there are no more than places
-pub pushed_count : {places : ℕ} (p : Push) (b : StoreBuffer) → b.count ≤ places → PushFits places p b.count → (pushed_in p b).count ≤ places
-pushed_count Nothing b few fits = few
-pushed_count (One w k) b few fits = omega arith
+pub pushed_count : {places : ℕ} (p : Option (Maker × StoreKind)) (b : StoreBuffer) → b.count ≤ places → PushFits places p b.count → (pushed_in p b).count ≤ places
+pushed_count None b few fits = few
+pushed_count (Some (w, k)) b few fits = omega arith
 
 -- ── The pending list ────────────────────────────────────────────────────────────────────────────────────────────────────────
 
@@ -59,9 +59,14 @@ push_free s b free = by_test _ _ (lt-leb 64 b.count free)
 pub drop_oldest_some : (b : StoreBuffer) → 0 < b.count → b.count ≤ 64 → drop_oldest_or_same b ≡ drop_oldest b
 drop_oldest_some b some fits = rw (le-ltb b.count 1 some, le-ltb 64 b.count fits)
 
-pub pushed_free : (p : Push) (b : StoreBuffer) → PushFits 64 p b.count → pushed_or_same p b ≡ pushed_in p b
-pushed_free Nothing b free = refl
-pushed_free (One w k) b free = push_free (record { kind = k }) b free
+-- an entry that does not make a store makes none
+pub nothing_made : (p : Option (Maker × StoreKind)) → is_some p ≡ false → None ≡ p
+nothing_made None none = refl
+nothing_made (Some made) none = absurd (false≢true (sym none))
+
+pub pushed_free : (p : Option (Maker × StoreKind)) (b : StoreBuffer) → PushFits 64 p b.count → pushed_or_same p b ≡ pushed_in p b
+pushed_free None b free = refl
+pushed_free (Some (w, k)) b free = push_free (record { kind = k }) b free
 
 -- ── What is found by going through it, from the oldest to the newest ────────────────────────────────────────────────────────
 
@@ -74,44 +79,6 @@ module _ {A : Type 0} (f : A → Store → A) (v : A) where
   pub drop_oldest_foldl : (b : StoreBuffer) → 0 < b.count → b.count ≤ length b.stores → foldl f (f v (oldest b)) (pending (drop_oldest b)) ≡ foldl f v (pending b)
   drop_oldest_foldl b some within =
       ap (foldl f (f v (oldest b))) (drop_oldest_pending b some within) ∙ sym (ap (foldl f v) (pending_oldest b some within))
-
--- ── What a loop over it finds ───────────────────────────────────────────────────────────────────────────────────────────────
-
-module _ {A : Type 0} (g : List Store → A) (stores : List Store) (count : ℕ) where
-  -- after i stores, all of them pending, the loop has what g makes of those
-  abbrev pub Found : A → ℕ → Type 0
-  Found a i = (a ≡ g (take i stores)) × (i ≤ count) × (i ≤ 64)
-
-  -- it ends where no more are pending, or with the array
-  pub found_all : (a : A) (i : ℕ) → length stores ≡ 64 → Found a i → (ltb i count && ltb i 64) ≡ false → a ≡ g (take count stores)
-  found_all a i long found past = go (ltb i count) refl
-    where
-      go : (t : Bool) → ltb i count ≡ t → a ≡ g (take count stores)
-      go true e =
-          let h : 64 ≤ i = ltb-false i 64 (sym (ap (λ t. t && ltb i 64) e) ∙ past) in
-          found.0 ∙ ap g (take_whole stores i count (omega arith) (omega arith))
-      go false e = let h = ltb-false i count e in let same : i ≡ count = omega arith in found.0 ∙ ap (λ n. g (take n stores)) same
-
--- a store at which the loop goes on is pending, and in the array
-pub goes_on_lem : (i count : ℕ) → (ltb i count && ltb i 64) ≡ true → (i < count) × (i < 64)
-goes_on_lem i count e = (ltb-true i count (and_left (ltb i count) (ltb i 64) e), ltb-true i 64 (and_right (ltb i count) (ltb i 64) e))
-
--- a buffer whose oldest store can be dropped has one, and no more than there are cells
-pub drops : (count : ℕ) → (ltb count 1 || ltb 64 count) ≡ false → (1 ≤ count) × (count ≤ 64)
-drops count e = go (ltb count 1) refl
-  where
-    go : (t : Bool) → ltb count 1 ≡ t → (1 ≤ count) × (count ≤ 64)
-    go true few = absurd (false≢true (sym e ∙ ap (λ t. t || ltb 64 count) few))
-    go false some = (ltb-false count 1 some, ltb-false 64 count (sym (ap (λ t. t || ltb 64 count) some) ∙ e))
-
--- a turn of a loop that goes from store to store
-pub found_more : {A : Type 0} (g : List Store → A) (f : A → Store → A) → ((l : List Store) (s : Store) → g (l ++ (s ∷ [])) ≡ f (g l) s)
-    → (stores : List Store) (count : ℕ) (a next : A) (i : ℕ)
-    → length stores ≡ 64 → Found g stores count a i → i < count → i < 64 → next ≡ f a (get_or stores i client_store) → Found g stores count next (i + 1)
-found_more g f grows stores count a next i long found below inside step =
-    let there : i < length stores = omega arith in
-    let more : g (take (i + 1) stores) ≡ f (g (take i stores)) (get_or stores i client_store) = rw (add-one, take-suc stores i client_store there) (grows (take i stores) (get_or stores i client_store)) in
-    (step ∙ ap (λ u. f u (get_or stores i client_store)) found.0 ∙ sym more, omega arith, omega arith)
 
 -- ── What the worker loads ───────────────────────────────────────────────────────────────────────────────────────────────────
 
@@ -199,14 +166,14 @@ module _ (t : Index) (b : StoreBuffer) where
   push_scan s room = ap (scan_of t) (push_pending s b room) ∙ scan_of_snoc t (pending b) s
 
   module _ (long : length b.stores ≡ 64) where
-    pub pushed_ranged : (p : Push) → PushFits 64 p b.count → (scan t (pushed_in p b)).ranged ≡ ((scan t b).ranged && push_in_range p)
-    pushed_ranged Nothing fits = sym (&&-true (scan t b).ranged)
-    pushed_ranged (One w k) fits = ap (λ f. f.ranged) (push_scan (record { kind = k }) (omega arith))
+    pub pushed_ranged : (p : Option (Maker × StoreKind)) → PushFits 64 p b.count → (scan t (pushed_in p b)).ranged ≡ ((scan t b).ranged && push_in_range p)
+    pushed_ranged None fits = sym (&&-true (scan t b).ranged)
+    pushed_ranged (Some (w, k)) fits = ap (λ f. f.ranged) (push_scan (record { kind = k }) (omega arith))
 
-    pub pushed_takes : (p : Push) → PushFits 64 p b.count
+    pub pushed_takes : (p : Option (Maker × StoreKind)) → PushFits 64 p b.count
         → (scan t (pushed_in p b)).takes ≡ cond (push_lowers_tail (newest_tail t b) p) ((scan t b).takes + 1) (scan t b).takes
-    pushed_takes Nothing fits = refl
-    pushed_takes (One w k) fits = ap (λ f. f.takes) (push_scan (record { kind = k }) (omega arith))
+    pushed_takes None fits = refl
+    pushed_takes (Some (w, k)) fits = ap (λ f. f.takes) (push_scan (record { kind = k }) (omega arith))
 
 -- after a drain: the oldest is one less, if it lowers memory's tail
 pub drain_takes : (t : Index) (b : StoreBuffer) → 0 < b.count → b.count ≤ length b.stores

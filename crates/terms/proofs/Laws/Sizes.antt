@@ -8,9 +8,11 @@ use native.Mathlib.Omega.{arith}
 use lib.Dec.{eqb, leb}
 use lib.ListN.{get_or}
 use borrow.Author.Tests.{eqb-false, leb-true}
-use Rattle.terms.specs.Types.{AllInRange, OutOfRange, SizeCheck, Sizes}
+use Rattle.std.specs.Prelude.{Option, None, Some, is_none, not}
+use Rattle.std.specs.List.{position_from}
+use Rattle.terms.specs.Types.{Sizes}
 use Rattle.terms.specs.Refusal.{Refuses}
-use Rattle.terms.specs.Sizes.{check_sizes, divide_up, first_fault, margin_in_use, no_fault, ranges_kept, refusal_in_sizes, sizes_have, sizes_in_range, within}
+use Rattle.terms.specs.Sizes.{check_sizes, divide_up, first_fault, margin_in_use, ranges_kept, refusal_in_sizes, sizes_have, sizes_in_range, within}
 use Rattle.terms.proofs.Laws.Tests.{and_left, and_right}
 
 -- a quotient that is rounded up, by less than a whole, is at most the number itself
@@ -43,17 +45,23 @@ pub record SizeBounds (s : Sizes) : Type 0 where
   pub start_most : s.start ≤ 2147483647
 
 -- where no fault is found, every test passed
-pub kept_at : (place : ℕ) (l : List Bool) (i : ℕ) → no_fault (first_fault place l) ≡ true → get_or l i true ≡ true
+pub kept_at : (place : ℕ) (l : List Bool) (i : ℕ) → is_none (first_fault place l) ≡ true → get_or l i true ≡ true
 kept_at place [] i h = refl
 kept_at place (true ∷ l) zero h = refl
 kept_at place (true ∷ l) (suc i) h = kept_at (place + 1) l i h
 kept_at place (false ∷ l) i h = absurd (false≢true h)
 
+-- which is the first test that answers false
+pub position_is_first_fault : (place : ℕ) (l : List Bool) → position_from not place l ≡ first_fault place l
+position_is_first_fault place [] = refl
+position_is_first_fault place (true ∷ l) = position_is_first_fault (place + 1) l
+position_is_first_fault place (false ∷ l) = refl
+
 -- where one is, that test failed
-found_none : {at : ℕ} → AllInRange ≡ OutOfRange at → ⊥
+found_none : {at : ℕ} → None ≡ Some at → ⊥
 found_none e = let clash : ◌≡◌ {A = ℕ} 0 1 = cc in omega arith
 
-pub fault_told : (place at : ℕ) (l : List Bool) → first_fault place l ≡ OutOfRange at → (i : ℕ) × ((place + i ≡ at) × (get_or l i true ≡ false))
+pub fault_told : (place at : ℕ) (l : List Bool) → first_fault place l ≡ Some at → (i : ℕ) × ((place + i ≡ at) × (get_or l i true ≡ false))
 fault_told place at [] e = absurd (found_none e)
 fault_told place at (true ∷ l) e = let found = fault_told (place + 1) at l e in (suc found.0, (omega (arith, found.1.0), found.1.1))
 fault_told place at (false ∷ l) e = let same : place ≡ at = cc in (zero, (omega arith, refl))
@@ -62,9 +70,9 @@ fault_told place at (false ∷ l) e = let same : place ≡ at = cc in (zero, (om
 pub sizes_refused : (s : Sizes) → Refuses (sizes_have s) (refusal_in_sizes (check_sizes s))
 sizes_refused s = go (check_sizes s) refl
   where
-    go : (c : SizeCheck) → check_sizes s ≡ c → Refuses (sizes_have s) (refusal_in_sizes c)
-    go AllInRange found = λ number place. rw (kept_at 0 (ranges_kept s) place (ap no_fault found), and-false)
-    go (OutOfRange at) found =
+    go : (c : Option ℕ) → check_sizes s ≡ c → Refuses (sizes_have s) (refusal_in_sizes c)
+    go None found = λ number place. rw (kept_at 0 (ranges_kept s) place (ap is_none found), and-false)
+    go (Some at) found =
         let told = fault_told 0 at (ranges_kept s) found in
         let same : at ≡ told.0 = omega (arith, told.1.0) in
         rw (same, told.1.1)

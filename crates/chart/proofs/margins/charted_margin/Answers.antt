@@ -10,6 +10,6 @@ pub returns-then-is_charted : goal.returns-then-is_charted
 returns-then-is_charted c =
     let a = c.args in
     let p : is_charted a.buffer a.spacing ≡ true = known c.is_charted.ensures c.if-is_charted.true in
-    ap (λ l. get_or l (place_of a.buffer a.spacing) 0) c.chart-margins.ensures
+    ap (λ l. get_or l (place_of a.buffer a.spacing) 0) c.chart.ensures
     ∙ each_agrees.agrees a.buffer a.spacing p
     ∙ sym (by_test (needed_margin a.buffer a.spacing) 0 p)

@@ -1,58 +1,64 @@
 -- what the two readings are decides, then the sizes, then the answers
-use Rattle.std.proofs.Common.{◌≡◌, ◌∙◌, ℕ, List, Bool, cond, refl, ap, sym, arith}
-use mathlib.Core.Bool.{true, ◌&&◌}
+use Rattle.std.proofs.Common.{◌≡◌, ◌∙◌, ℕ, List, Bool, ap, refl, sym, arith, true, false, rules, Result, Ok, Err, MatchResult, is_ok}
+use mathlib.Core.Bool.{◌&&◌, false≢true}
 use Rattle.terms.proofs.Laws.Tests.{known}
-use Rattle.schedule.specs.Format.{words_in}
 use Rattle.schedule.specs.Reader.{kind_part, operand_part, read_file}
-use Rattle.schedule.proofs.Laws.Run.{parts_obeyed}
-use Rattle.comparison.specs.Types.{Accepted, Alike, NotAlike, Sizes}
+use Rattle.schedule.proofs.Laws.Run.{PartsOf, parts_obeyed}
+use Rattle.comparison.specs.Types.{Refusal, Run, Sizes}
 use Rattle.comparison.specs.Alike.{likeness, likeness_of, same_answers, same_sizes}
-use Rattle.comparison.specs.Comparison.{same_runs}
-use Rattle.comparison.proofs.Laws.Alike.{same_files, same_sizes_lem}
+use Rattle.comparison.specs.Comparison.{RunOf, same_for_all}
+use Rattle.comparison.proofs.Laws.Alike.{alike_promises, files_compared, same_sizes_lem}
 use Rattle.comparison.proofs.likeness.alike.Goals as goal
 
--- Two files that were read, with the same sizes.
-module _ (first second : List ℕ) {s t : Sizes} {n k : ℕ} (one : read_file first ≡ Accepted s n) (two : read_file second ≡ Accepted t k) (same : same_sizes s t ≡ true) where
-  other : read_file second ≡ Accepted s k
-  other = two ∙ ap (λ s. Accepted s k) (sym (same_sizes_lem s t same))
+-- what is no error, once its error has another name, was none before
+kept : {A E F : Type 0} (N : E → Type 0) (r : Result A E) (q : Result A F) (a : A) → MatchResult r (λ x. q ≡ Ok x) N → is_ok q ≡ is_ok r → q ≡ Ok a → r ≡ Ok a
+kept N (Ok x) q a same both told = let joined = sym same ∙ told in let one : x ≡ a = cc in ap Ok one
+kept N (Err e) q a same both told = absurd (false≢true (sym both ∙ ap is_ok told))
 
-  -- what is found of their parts is found of the files
-  found : {kinds operands other_kinds other_operands : List ℕ} {answer : Bool}
-      → kinds ≡ kind_part first (Accepted s n) → operands ≡ operand_part first (Accepted s n)
-      → other_kinds ≡ kind_part second (Accepted t k) → other_operands ≡ operand_part second (Accepted t k)
-      → answer ≡ same_runs s kinds (words_in operands) other_kinds (words_in other_operands) → answer ≡ same_answers s.thieves first second
-  found kinds operands other_kinds other_operands tells =
-      tells
-      ∙ (λ i. same_runs s (kinds i) (words_in (operands i)) (other_kinds i) (words_in (other_operands i)))
-      ∙ same_files first second s n k one other
+-- the parts of a file that was read, by sizes that are its own
+parts_read : (file : List ℕ) {reading : Result (Sizes × ℕ) Refusal} {s t : Sizes} {n : ℕ} {kinds operands : List ℕ} → reading ≡ read_file file → reading ≡ Ok (t, n) → s ≡ t
+    → kinds ≡ kind_part file reading → operands ≡ operand_part file reading → PartsOf file s kinds operands n
+parts_read file {n = n} reads told same kinds operands =
+    let own = told ∙ ap (λ s. Ok (s, n)) (sym same) in
+    parts_obeyed file (known reads own) (kinds ∙ ap (kind_part file) own) (operands ∙ ap (operand_part file) own)
 
-  -- .. and decides
-  decided : {answer : Bool} → same_answers s.thieves first second ≡ answer → cond answer Alike NotAlike ≡ likeness first second
-  decided answers = sym ((λ i. likeness_of first second (one i) (two i)) ∙ (λ i. cond (same i && answers i) Alike NotAlike))
+-- Two files that were read, with the same sizes: what is found of their runs decides.
+decided : (first second : List ℕ) {s t : Sizes} {n k : ℕ} {kinds operands other_kinds other_operands : List ℕ} {r other : Run} {answer : Bool}
+    → read_file first ≡ Ok (s, n) → read_file second ≡ Ok (t, k) → same_sizes s t ≡ true → PartsOf first s kinds operands n → PartsOf second s other_kinds other_operands k
+    → RunOf s kinds operands r → RunOf s other_kinds other_operands other → answer ≡ same_for_all r other → Ok answer ≡ likeness first second
+decided first second {s = s} {t = t} one two same parts other_parts run other_run finds =
+    ap Ok (finds ∙ files_compared first second parts other_parts run other_run)
+    ∙ sym ((λ i. likeness_of first second (one i) (two i)) ∙ (λ i. Ok (same i && same_answers s.thieves first second)))
 
-pub same_runs-requires : goal.same_runs-requires
-same_runs-requires c =
-    let a = c.args in
-    let one = parts_obeyed a.first.now (known c.read-reading.ensures.value c.in-Accepted.is) c.kind_part-kinds.ensures.result_value refl in
-    let two = parts_obeyed a.second.now (known c.read-other.ensures.value c.in-Accepted-other.is) c.kind_part-other_kinds.ensures.result_value refl in
-    (omega (arith, one.many, one.few), omega (arith, two.many, two.few))
+pub returns-in_err-other_sizes-clause-likeness_refuses : goal.returns-in_err-other_sizes-clause-likeness_refuses
+returns-in_err-other_sizes-clause-likeness_refuses c = alike_promises c.args.first.now c.args.second.now c.from_residual-in_err-other_sizes.result (search rules)
 
-pub returns-then-same_runs-clause-value : goal.returns-then-same_runs-clause-value
-returns-then-same_runs-clause-value c =
-    let a = c.args in
-    let one = known c.read-reading.ensures.value c.in-Accepted.is in
-    let two = known c.read-other.ensures.value c.in-Accepted-other.is in
-    let same = known c.same_sizes.ensures c.if-same_sizes.true in
-    let finds = found a.first.now a.second.now one two same
-    c.kind_part-kinds.ensures.result_value c.operand_part-operands.ensures.result_value c.kind_part-other_kinds.ensures.result_value c.operand_part-other_operands.ensures.result_value c.same_runs.ensures in
-    decided a.first.now a.second.now one two same (known finds c.if-same_runs.true)
+pub returns-then-ne-clause-likeness_refuses : goal.returns-then-ne-clause-likeness_refuses
+returns-then-ne-clause-likeness_refuses c = alike_promises c.args.first.now c.args.second.now (Ok false) (search rules)
 
-pub returns-else-same_runs-clause-value : goal.returns-else-same_runs-clause-value
-returns-else-same_runs-clause-value c =
-    let a = c.args in
-    let one = known c.read-reading.ensures.value c.in-Accepted.is in
-    let two = known c.read-other.ensures.value c.in-Accepted-other.is in
-    let same = known c.same_sizes.ensures c.if-same_sizes.true in
-    let finds = found a.first.now a.second.now one two same
-    c.kind_part-kinds.ensures.result_value c.operand_part-operands.ensures.result_value c.kind_part-other_kinds.ensures.result_value c.operand_part-other_operands.ensures.result_value c.same_runs.ensures in
-    decided a.first.now a.second.now one two same (known finds c.if-same_runs.false)
+-- ── Files with the same sizes ───────────────────────────────────────────────────────────────────────────────────────────────
+
+pub new-run-requires : goal.new-run-requires
+new-run-requires c =
+    let told = kept _ _ _ _ c.map_err.ensures.cases c.map_err.ensures.variant c.in_ok-sizes.was in
+    let parts = parts_read c.args.first.now c.read-reading.ensures.value told refl c.kind_part.ensures.result_value c.operand_part.ensures.result_value in
+    omega (arith, parts.many, parts.few)
+
+pub new-other_run-requires : goal.new-other_run-requires
+new-other_run-requires c =
+    let told = kept _ _ _ _ c.map_err-2.ensures.cases c.map_err-2.ensures.variant c.in_ok-other_sizes.was in
+    let parts = parts_read c.args.second.now c.read-other.ensures.value told refl c.kind_part-2.ensures.result_value c.operand_part-2.ensures.result_value in
+    omega (arith, parts.many, parts.few)
+
+pub returns-clause-value : goal.returns-clause-value
+returns-clause-value c =
+    let same : same_sizes c.in_ok-sizes.sizes c.in_ok-other_sizes.other_sizes ≡ true = search rules in
+    let told = kept _ _ _ _ c.map_err.ensures.cases c.map_err.ensures.variant c.in_ok-sizes.was in
+    let other-told = kept _ _ _ _ c.map_err-2.ensures.cases c.map_err-2.ensures.variant c.in_ok-other_sizes.was in
+    decided c.args.first.now c.args.second.now (known c.read-reading.ensures.value told) (known c.read-other.ensures.value other-told) same
+    (parts_read c.args.first.now c.read-reading.ensures.value told refl c.kind_part.ensures.result_value c.operand_part.ensures.result_value)
+    (parts_read c.args.second.now c.read-other.ensures.value other-told (same_sizes_lem c.in_ok-sizes.sizes c.in_ok-other_sizes.other_sizes same) c.kind_part-2.ensures.result_value c.operand_part-2.ensures.result_value)
+    c.new-run.ensures c.new-other_run.ensures c.same_for_all.ensures
+
+pub returns-clause-likeness_refuses : goal.returns-clause-likeness_refuses
+returns-clause-likeness_refuses c = alike_promises c.args.first.now c.args.second.now (Ok c.same_for_all.result) (returns-clause-value c)

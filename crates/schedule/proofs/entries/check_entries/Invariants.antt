@@ -1,11 +1,7 @@
 -- no entry before `at` is faulty
-use Rattle.std.proofs.Common.{◌-◌, length}
 use Rattle.schedule.specs.Format.{words_in}
 use Rattle.schedule.proofs.Laws.Entries.{NoneBefore}
 use Rattle.schedule.proofs.entries.check_entries.Given as goal
 
 abbrev pub invariant-loop-at : goal.invariant-loop-at
 invariant-loop-at l = NoneBefore l.sizes l.kinds (words_in l.operands) l.at
-
-abbrev pub decreases-loop-at : goal.decreases-loop-at
-decreases-loop-at l = length l.kinds - l.at

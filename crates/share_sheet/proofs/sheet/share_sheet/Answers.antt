@@ -1,65 +1,55 @@
 -- what the reading is decides, then the checks behind it; a sheet that is written is that of the run
-use Rattle.std.proofs.Common.{◌≡◌, ◌∙◌, ℕ, List, length, ap, sym, arith}
-use Rattle.terms.proofs.Laws.Tests.{known}
+use Rattle.std.proofs.Common.{◌≡◌, ◌∙◌, ℕ, List, length, ap, sym, Result, Err}
+use Rattle.std.proofs.lemmas.Result.{err_from_is_err_and}
 use Rattle.number.specs.Number.{overwritten}
-use Rattle.machine.specs.Linearizable.{ff_the}
 use Rattle.schedule.specs.Check.{first}
-use Rattle.schedule.specs.Reader.{read_file, refusal_of}
-use Rattle.schedule.specs.Run.{entries_of, outcomes_in, schedule_in}
-use Rattle.schedule.specs.Format.{words_in}
-use Rattle.schedule.proofs.Laws.Run.{PartsOf, parts_obeyed, parts_outcomes}
+use Rattle.schedule.specs.Run.{outcomes_in, schedule_in}
+use Rattle.share_sheet.specs.Filling.{AcceptedFrom, entries}
 use Rattle.share_sheet.specs.Sheet.{answer_by, buffer_if, checks_after_reading, make_sheet, sheet_of}
-use Rattle.share_sheet.specs.Types.{Accepted, Check, Sizes}
-use Rattle.share_sheet.specs.declared.sheet.Sheet.TheVariants as sheet
-use Rattle.share_sheet.proofs.Faults.{sheet_promises}
+use Rattle.share_sheet.specs.Types.{Accepted, Refusal}
+use Rattle.share_sheet.proofs.Faults.{sheet_refuses, sheet_tells}
 use Rattle.share_sheet.proofs.Laws.Sheet.{behind_decides, file_decides}
 use Rattle.share_sheet.proofs.sheet.share_sheet.Goals as goal
 
--- the promises, by their names
-told : {A B C D : Type 0} → A × (B × (C × D)) → record { value : A; sheet_after : B; sheet_tells : C; refuses : D }
-told p = record { value = p.0; sheet_after = p.1.0; sheet_tells = p.1.1.0; refuses = p.1.1.1 }
+-- of an accepted file, what the checks behind found decides
+decided : (file : List ℕ) (count room : ℕ) {a : Accepted} {found told : Result Unit Refusal} → AcceptedFrom file a → found ≡ first (checks_after_reading a.sizes (entries a) count room) → found ≡ told
+    → answer_by count told ≡ make_sheet file count room
+decided file count room {a} from finds is =
+    sym (behind_decides file count room a.sizes _ from.read ∙ ap (answer_by count) (ap (λ es. first (checks_after_reading a.sizes es count room)) (sym from.same_entries) ∙ sym finds ∙ is))
 
-pub returns-in_default : goal.returns-in_default
-returns-in_default c =
+pub returns-in_err-schedule-clause-refuses : goal.returns-in_err-schedule-clause-refuses
+returns-in_err-schedule-clause-refuses c =
+    let failed = err_from_is_err_and c.from_residual.result c.from_residual.ensures.1 in
+    sheet_refuses c.args.file.now c.args.count (length c.args.sheet.now) c.from_residual.result
+    (failed.1 ∙ ap Err failed.2 ∙ sym (file_decides c.args.file.now c.args.count (length c.args.sheet.now) _ c.in_err-schedule.ensures))
+
+pub returns-in_err-check_sheet-clause-value : goal.returns-in_err-check_sheet-clause-value
+returns-in_err-check_sheet-clause-value c =
+    let failed = err_from_is_err_and c.from_residual-in_err-check_sheet.result c.from_residual-in_err-check_sheet.ensures.1 in
+    failed.1 ∙ ap Err failed.2 ∙ decided c.args.file.now c.args.count (length c.args.sheet.now) c.in_ok-schedule.ensures c.check_sheet.ensures c.in_err-check_sheet.was
+
+pub returns-in_err-check_sheet-clause-sheet_after : goal.returns-in_err-check_sheet-clause-sheet_after
+returns-in_err-check_sheet-clause-sheet_after c =
     let a = c.args in
-    let read = c.read-reading.ensures.value in
-    let refused = known read c.in_default.is in
-    let decided = file_decides a.file.now a.count (length a.sheet.now) _ refused in
-    let left = sym (ap (buffer_if (sheet_of a.count (schedule_in a.file.now) (outcomes_in a.file.now)) a.sheet.now) decided) in
-    told (sheet_promises a.file.now a.count a.sheet.now _ _ (ap sheet.Refused (c.refusal_of.ensures ∙ ap refusal_of (read ∙ refused)) ∙ sym decided) left)
+    ap (buffer_if (sheet_of a.count (schedule_in a.file.now) (outcomes_in a.file.now)) a.sheet.now) (decided a.file.now a.count (length a.sheet.now) c.in_ok-schedule.ensures c.check_sheet.ensures c.in_err-check_sheet.was)
 
--- ── A file that is read ─────────────────────────────────────────────────────────────────────────────────────────────────────
+pub returns-in_err-check_sheet-clause-refuses : goal.returns-in_err-check_sheet-clause-refuses
+returns-in_err-check_sheet-clause-refuses c = sheet_refuses c.args.file.now c.args.count (length c.args.sheet.now) c.from_residual-in_err-check_sheet.result (returns-in_err-check_sheet-clause-value c)
 
--- what the checks behind found decides
-decided : (file : List ℕ) (count room : ℕ) {s : Sizes} {n : ℕ} {kinds operands : List ℕ} {found : Check} → read_file file ≡ Accepted s n → PartsOf file s kinds operands n
-    → found ≡ first (checks_after_reading s (entries_of s kinds (words_in operands)) count room)
-    → make_sheet file count room ≡ answer_by count found
-decided file count room {s} read parts finds =
-    behind_decides file count room s _ read
-    ∙ ap (answer_by count) (ap (λ es. first (checks_after_reading s es count room)) (sym parts.entries) ∙ sym finds)
+-- ── A sheet that is written ─────────────────────────────────────────────────────────────────────────────────────────────────
 
-pub returns-in-Failed : goal.returns-in-Failed
-returns-in-Failed c =
+pub returns-clause-value : goal.returns-clause-value
+returns-clause-value c = decided c.args.file.now c.args.count (length c.args.sheet.now) c.in_ok-schedule.ensures c.check_sheet.ensures c.in_ok-check_sheet.was
+
+pub returns-clause-sheet_after : goal.returns-clause-sheet_after
+returns-clause-sheet_after c =
     let a = c.args in
-    let read = known c.read-reading.ensures.value c.in-Accepted.is in
-    let parts = parts_obeyed a.file.now read c.kind_part-kinds.ensures.result_value c.operand_part-operands.ensures.result_value in
-    let refused = decided a.file.now a.count (length a.sheet.now) read parts c.check_sheet-found.ensures ∙ ap (answer_by a.count) c.in-Failed.is in
-    let kept = sym (ap (buffer_if (sheet_of a.count (schedule_in a.file.now) (outcomes_in a.file.now)) a.sheet.now) refused) in
-    told (sheet_promises a.file.now a.count a.sheet.now _ _ (sym refused) kept)
+    c.put_sheet.ensures
+    ∙ (λ i. overwritten 0 (sheet_of a.count (c.in_ok-schedule.ensures.same_entries i) (c.in_ok-schedule.ensures.same_outcomes i)) a.sheet.now)
+    ∙ ap (buffer_if (sheet_of a.count (schedule_in a.file.now) (outcomes_in a.file.now)) a.sheet.now) (returns-clause-value c)
 
-pub put_sheet-requires-clause-sizes_value : goal.put_sheet-requires-clause-sizes_value
-put_sheet-requires-clause-sizes_value c =
-    let read = known c.read-reading.ensures.value c.in-Accepted.is in
-    let of = parts_obeyed c.args.file.now read c.kind_part-kinds.ensures.result_value c.operand_part-operands.ensures.result_value in
-    (of.ranged, omega (arith, of.few, of.many), of.allowed)
+pub returns-clause-sheet_tells : goal.returns-clause-sheet_tells
+returns-clause-sheet_tells c = sheet_tells c.args.file.now c.args.count c.args.sheet.now _ _ (returns-clause-value c) (returns-clause-sheet_after c)
 
-pub returns : goal.returns
-returns c =
-    let a = c.args in
-    let read = known c.read-reading.ensures.value c.in-Accepted.is in
-    let parts = parts_obeyed a.file.now read c.kind_part-kinds.ensures.result_value c.operand_part-operands.ensures.result_value in
-    let written = decided a.file.now a.count (length a.sheet.now) read parts c.check_sheet-found.ensures ∙ ap (answer_by a.count) c.in_default-found.is in
-    told (sheet_promises a.file.now a.count a.sheet.now _ _ (sym written)
-    (c.put_sheet.ensures
-    ∙ (λ i. overwritten 0 (sheet_of a.count (parts.entries i) (parts_outcomes ff_the parts i)) a.sheet.now)
-    ∙ sym (ap (buffer_if (sheet_of a.count (schedule_in a.file.now) (outcomes_in a.file.now)) a.sheet.now) written)))
+pub returns-clause-refuses : goal.returns-clause-refuses
+returns-clause-refuses c = sheet_refuses c.args.file.now c.args.count (length c.args.sheet.now) _ (returns-clause-value c)

@@ -1,10 +1,6 @@
 -- no entry before `at` is faulty
-use Rattle.std.proofs.Common.{◌-◌, length}
 use Rattle.schedule.proofs.Laws.Entries.{NoneBefore}
 use Rattle.writer.proofs.entries.check_arrays.Given as goal
 
 abbrev pub invariant-loop-at : goal.invariant-loop-at
 invariant-loop-at l = NoneBefore l.sizes l.kinds l.operands l.at
-
-abbrev pub decreases-loop-at : goal.decreases-loop-at
-decreases-loop-at l = length l.kinds - l.at

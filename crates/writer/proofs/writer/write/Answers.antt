@@ -1,18 +1,12 @@
--- what the checks found decides what is answered
-use Rattle.std.proofs.Common.{◌+◌, ◌*◌, length, ap, sym}
-use Rattle.terms.proofs.Laws.Tests.{known}
-use Rattle.writer.specs.Writer.{writing_of}
+-- what is refused is a fault, and what is written has none
+use Rattle.std.proofs.Common.{◌+◌, ◌*◌, length, rules, Ok}
 use Rattle.writer.proofs.Faults.{write_promises}
 use Rattle.writer.proofs.writer.write.Goals as goal
 
-pub returns-in-Failed-clause-refuses : goal.returns-in-Failed-clause-refuses
-returns-in-Failed-clause-refuses c =
-    let a = c.args in
-    let found = known c.check_writing-found.ensures c.in-Failed.is in
-    write_promises a.sizes a.kinds.now a.operands.now (length a.buffer.now) _ (sym (ap (writing_of (28 + 5 * length a.kinds.now)) found))
+pub returns-in_err-check_writing-clause-refuses : goal.returns-in_err-check_writing-clause-refuses
+returns-in_err-check_writing-clause-refuses c =
+    let a = c.args in write_promises a.sizes a.kinds.now a.operands.now (length a.buffer.now) c.from_residual.result (search rules)
 
 pub returns-clause-refuses : goal.returns-clause-refuses
 returns-clause-refuses c =
-    let a = c.args in
-    let found = known c.check_writing-found.ensures c.in_default.is in
-    write_promises a.sizes a.kinds.now a.operands.now (length a.buffer.now) _ (sym (ap (writing_of (28 + 5 * length a.kinds.now)) found))
+    let a = c.args in write_promises a.sizes a.kinds.now a.operands.now (length a.buffer.now) (Ok (28 + 5 * length a.kinds.now)) (search rules)

@@ -1,30 +1,8 @@
--- the start is an index as it is, and a store of what an array holds everywhere changes nothing
-use Rattle.std.proofs.Common.{false, List, ◌%◌, arith, ℤ}
-use Rattle.std.proofs.Math.ListN.{replicate}
+-- a thief's idle call, stored where the array holds it anyway, changes nothing
+use Rattle.std.proofs.Common.{◌%◌}
 use Rattle.terms.proofs.Laws.Lists.{set_same}
-use Rattle.stores.proofs.Laws.Words.{number_small, small_read}
-use Rattle.cas.specs.Types.{Client, Machine, Sizes, Store, Thief, WorkerCall}
 use Rattle.cas.specs.Thief.{idle_thief}
 use Rattle.cas.proofs.state.Machine.fresh.Goals as goal
 
--- the machine before the first entry, by its start and its arrays
-abbrev built : Sizes → ℤ → List Store → List Thief → Machine
-built sizes start stores thieves =
-    record {
-      sizes = sizes;
-      slots = replicate 256 0;
-      head = record { at = start };
-      tail = record { at = start };
-      buffer = record { stores = stores; count = 0 };
-      spacing = record { count = 0; begun = false };
-      worker = record { call = WorkerCall.Idle };
-      thieves = thieves;
-    }
-
 pub returns : goal.returns
-returns c =
-    let sizes = c.args.sizes in
-    let start = small_read (number_small sizes.start (omega arith)) in
-    let stores = set_same {A = Store} 64 (sizes.buffer % 64) (record { kind = Client }) in
-    let thieves = set_same 8 (sizes.thieves % 8) idle_thief in
-    λ i. built sizes (start i) (stores i) (thieves i)
+returns c = simp (c.from-start.ensures, c.empty.ensures, c.no_take.ensures, set_same 8 (c.args.sizes.thieves % 8) idle_thief)

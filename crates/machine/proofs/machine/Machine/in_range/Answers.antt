@@ -5,4 +5,4 @@ use Rattle.machine.proofs.machine.Machine.in_range.Goals as goal
 
 pub returns : goal.returns
 unfolding in_range
-returns c = ap (λ seen. seen.ranged) c.look-seen.ensures
+returns c = ap (λ seen. seen.ranged) c.look.ensures

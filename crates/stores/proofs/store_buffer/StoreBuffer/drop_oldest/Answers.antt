@@ -4,7 +4,7 @@ use mathlib.Core.Bool.{true, ◌&&◌}
 use lib.Dec.{leb, ltb}
 use borrow.Author.Tests.{leb-true, ltb-true}
 use Rattle.stores.specs.Types.{StoreBuffer}
-use Rattle.stores.specs.StoreBuffer.{client_store}
+use Rattle.stores.specs.StoreBuffer.{client_store, oldest}
 use Rattle.stores.proofs.Laws.StoreBuffer.{drop_oldest_some}
 use Rattle.terms.proofs.Laws.Tests.{and_left, and_right}
 use Rattle.terms.proofs.Laws.Lists.{set_shifted, shifted, shifted_more, take_drop_one}
@@ -53,6 +53,6 @@ returns-after-loop-i c =
     ∙ (λ j. front j ++ (client_store ∷ drop (past j) whole))
     in
     rw (drop_oldest_some c.args.self h.0 h.1) (λ j. record {
-      oldest = record { kind = c.copied.ensures j };
+      oldest = record { kind = (oldest c.args.self).kind };
       left = record { stores = stores j; count = count - 1 };
     })

@@ -1,10 +1,7 @@
--- what was found so far is what is to be found in the first i stores, all of them pending
-use Rattle.std.proofs.Common.{◌-◌}
-use Rattle.stores.proofs.Laws.StoreBuffer.{Found, scan_of}
+-- what was found so far is what is to be found in the stores so far
+use Rattle.std.proofs.Common.{◌≡◌, take}
+use Rattle.stores.proofs.Laws.StoreBuffer.{scan_of}
 use Rattle.stores.proofs.store_buffer.StoreBuffer.scan.Given as goal
 
-abbrev pub invariant-loop-i : goal.invariant-loop-i
-invariant-loop-i l = Found (scan_of l.initial.found.tail) l.stores l.count l.found l.i
-
-abbrev pub decreases-loop-i : goal.decreases-loop-i
-decreases-loop-i l = l.count - l.i
+abbrev pub invariant-loop-store : goal.invariant-loop-store
+invariant-loop-store l = l.found ≡ scan_of l.initial.found.tail (take l.store-index l.store-items)
