@@ -15,6 +15,13 @@ abbrev pub result_answer : Result ℕ Refusal → ℕ
 result_answer (Ok n) = n
 result_answer (Err r) = refusal_answer r
 
+-- what was written, and a sheet that was made
+abbrev pub writing_answer : Result ℕ Refusal → ℕ
+writing_answer r = result_answer r
+
+abbrev pub sheet_answer : Result ℕ Refusal → ℕ
+sheet_answer r = result_answer r
+
 -- numbers put one behind the other into lent bytes, four bytes each, the least significant first; the functions below see to it that all fit
 abbrev pub words_put : ℕ → List ℕ → List ℕ → List ℕ
 words_put at [] bytes = bytes

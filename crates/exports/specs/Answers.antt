@@ -13,7 +13,7 @@ use Rattle.share_sheet.specs.Sheet.{sheet_after, make_sheet}
 use Rattle.share_sheet.specs.Sheets.{design, design_sheet, enough}
 use Rattle.writer.specs.Writer.{write_file}
 use Rattle.exports.specs.Types.{FfCl, FfThe, Queue, Refusal, Room, Sizes}
-use Rattle.exports.specs.Answer.{likeness_answer, reading_answer, refusal_answer, run_into, running_answer, sizes_after, totals_after, trace_into, result_answer}
+use Rattle.exports.specs.Answer.{likeness_answer, reading_answer, refusal_answer, run_into, running_answer, sheet_answer, sizes_after, totals_after, trace_into, writing_answer}
 
 pub data Row : Type 0 where
   -- a refusal, and the number that is answered
@@ -37,8 +37,8 @@ holds (runs q file trace totals answer begins after) =
     && equal (take (length begins) (trace_into q file trace totals)) begins
     && equal (totals_after (run_into q file (length trace) totals) totals) after
 holds (compares first second answer) = eqb (likeness_answer (likeness first second)) answer
-holds (writes s kinds operands room answer) = eqb (result_answer (write_file s kinds operands room)) answer
-holds (shares file count buffer answer after) = eqb (result_answer (make_sheet file count (length buffer))) answer && equal (sheet_after file count buffer) after
+holds (writes s kinds operands room answer) = eqb (writing_answer (write_file s kinds operands room)) answer
+holds (shares file count buffer answer after) = eqb (sheet_answer (make_sheet file count (length buffer))) answer && equal (sheet_after file count buffer) after
 
 -- four small numbers in sixteen bytes
 abbrev pub four_words : ℕ → ℕ → ℕ → ℕ → List ℕ

@@ -5,7 +5,7 @@ ghost use Rattle.share_sheet.specs.Sheet.{sheet_after, make_sheet};
 ghost use Rattle.terms.specs.Sizes.{needed_margin, sized};
 ghost use Rattle.writer.specs.Writer.{buffer_after, write_file};
 ghost use Rattle.exports.specs.Types.{FfCl, FfThe};
-ghost use Rattle.exports.specs.Answer.{likeness_answer, reading_answer, result_answer, run_into, running_answer, sizes_after, totals_after, trace_into};
+ghost use Rattle.exports.specs.Answer.{likeness_answer, reading_answer, run_into, running_answer, sheet_answer, sizes_after, totals_after, trace_into, writing_answer};
 
 use crate::answer::{answer_of, put_sizes, put_summary, refusal_answer};
 use comparison::{RefusedFile, alike};
@@ -93,7 +93,7 @@ pub extern "C" fn rehearsal_write(
     operands: &[u32],
     file: &mut [u8],
 ) -> u64
-    ensures value { result ≡ result_answer (write_file (sized slots buffer spacing margin thieves start) kinds.now operands.now (length file.old)) }
+    ensures value { result ≡ writing_answer (write_file (sized slots buffer spacing margin thieves start) kinds.now operands.now (length file.old)) }
     ensures file_after { file.new ≡ buffer_after (sized slots buffer spacing margin thieves start) kinds.now operands.now file.old }
 {
     let sizes = Sizes {
@@ -110,7 +110,7 @@ pub extern "C" fn rehearsal_write(
 // Makes the share sheet of a schedule file and a count of blocks. Tells how many bytes the sheet has.
 #[unsafe(no_mangle)]
 pub extern "C" fn rehearsal_share_sheet(file: &[u8], count: u32, sheet: &mut [u8]) -> u64
-    ensures value { result ≡ result_answer (make_sheet file.now count (length sheet.old)) }
+    ensures value { result ≡ sheet_answer (make_sheet file.now count (length sheet.old)) }
     ensures sheet_after { sheet.new ≡ sheet_after file.now count sheet.old }
 {
     answer_of(share_sheet(file, count, sheet))
