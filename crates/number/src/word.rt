@@ -1,8 +1,6 @@
 ghost use Rattle.std.specs.Prelude.{◌≡◌};
 ghost use Rattle.number.specs.Number.{word_at, word_put};
 
-use crate::arrays::put_bytes;
-
 // The number that the four bytes from a place on are; 0, if they are not all there. (`get` and `first_chunk` take five instructions more.)
 pub fn word_at(bytes: &[u8], at: usize) -> u32
     ensures { result ≡ word_at bytes.now at }
@@ -20,5 +18,9 @@ pub fn word_at(bytes: &[u8], at: usize) -> u32
 pub fn put_word(buffer: &mut [u8], at: usize, number: u32)
     ensures { buffer.new ≡ word_put at number buffer.old }
 {
-    put_bytes(buffer, at, &number.to_le_bytes());
+    if let Some(end) = at.checked_add(4)
+        && end <= buffer.len()
+    {
+        buffer[at..end].copy_from_slice(&number.to_le_bytes());
+    }
 }

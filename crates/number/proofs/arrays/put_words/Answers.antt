@@ -1,6 +1,7 @@
-use Rattle.std.proofs.Common.{◌+◌, ◌*◌, ◌<◌, length, sym, arith}
-use Rattle.number.specs.Number.{word_bytes}
-use Rattle.number.proofs.Laws.Words.{bytes_missing, length_word_bytes, words_more}
+use Rattle.std.proofs.Common.{◌+◌, ◌*◌, ◌-◌, ◌<◌, ◌≡◌, ◌∙◌, get_or, length, refl, sym, arith, rules}
+use Rattle.std.proofs.lemmas.Slice.{put_mid-paste}
+use Rattle.number.specs.Number.{little_endian, word_bytes}
+use Rattle.number.proofs.Laws.Words.{bytes_missing, length_word_bytes, put_there, words_more}
 use Rattle.number.proofs.arrays.put_words.Goals as goal
 use Rattle.number.proofs.arrays.put_words.Goals.{in_default-via-in-None-1, in_default-via-in-Some+else-end-buffer}
 
@@ -8,7 +9,10 @@ pub loop-i-preserved : goal.loop-i-preserved
 loop-i-preserved c =
     let a = c.args in
     let more = words_more a.at a.numbers.now a.buffer.now (omega (arith, c.in-Some.ensures)) c.loop-i.i c.loop-i-test.true in
-    (more _ _ c.loop-i.invariant.0 c.put_word.ensures, omega arith)
+    let place = a.at + 4 * c.loop-i.i in
+    let number = get_or a.numbers.now c.loop-i.i 0 in
+    let bytes : c.copy_from_slice.new.self ≡ little_endian 4 number = c.copy_from_slice.ensures.after ∙ search (rules, c.to_le_bytes.ensures) in
+    (more _ _ c.loop-i.invariant.0 (put_mid-paste place (place + 4 - place) c.loop-i.buffer c.copy_from_slice.new.self (little_endian 4 number) 4 bytes (omega arith) refl ∙ sym (put_there place number c.loop-i.buffer (omega (arith, c.in-Some.ensures)))), omega arith)
 
 pub returns-in_default : goal.returns-in_default
 returns-in_default c =
