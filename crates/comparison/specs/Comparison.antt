@@ -13,7 +13,7 @@ use Rattle.schedule.specs.Trace.{Line, line_in}
 
 -- the line at a place of a run's trace
 unfoldable pub line_at : Run → ℕ → Line
-line_at r at = line_in (length r.kinds.now) r.trace at
+line_at r at = line_in (length r.kinds.now) r.trace.now at
 
 -- whether the entry at a place of a run gets an answer, and for the party
 unfoldable pub answered : ℕ → Run → ℕ → Bool

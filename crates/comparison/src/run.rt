@@ -4,26 +4,30 @@ use number::word_at;
 use schedule::{LONGEST_TRACE, entry_at, obey_entries};
 use terms::{Sizes, is_answer};
 
-// A schedule, by its sizes and the two parts of its file, and the trace of its run.
+// A schedule, by its sizes and the two parts of its file, and the trace of its run. (The trace is lent: one that moved with the struct would be copied, 20,484 bytes.)
 #[derive(Drop)]
 pub(crate) struct Run<'a> {
     sizes: Sizes,
     kinds: &'a [u8],
     operands: &'a [u8],
-    trace: [u8; LONGEST_TRACE],
+    trace: &'a [u8; LONGEST_TRACE],
     ghost few: { length kinds.now ≤ 4096 },
 }
 
 impl<'a> Run<'a> {
     ghost use Rattle.comparison.specs.Comparison.{RunOf, answered, line_at, same_for, same_for_all};
 
-    // Runs a schedule, into a trace of its own.
-    pub(crate) fn new(sizes: Sizes, kinds: &'a [u8], operands: &'a [u8]) -> Self
+    // Runs a schedule, into a trace that is lent.
+    pub(crate) fn new(
+        sizes: Sizes,
+        kinds: &'a [u8],
+        operands: &'a [u8],
+        trace: &'a mut [u8; LONGEST_TRACE],
+    ) -> Self
         requires { length kinds.now ≤ 4096 }
         ensures { RunOf sizes kinds.now operands.now result }
     {
-        let mut trace = [0; LONGEST_TRACE];
-        obey_entries(sizes, kinds, operands, &mut trace);
+        obey_entries(sizes, kinds, operands, trace);
         Run {
             sizes,
             kinds,
@@ -47,8 +51,9 @@ impl<'a> Run<'a> {
         ensures number { result.0 ≡ (line_at self.now at).number }
         ensures value { result.1 ≡ (line_at self.now at).value }
     {
-        let value = word_at(&self.trace, 4 + self.kinds.len() + 4 * at);
-        (self.trace[4 + at], value)
+        let trace = self.trace;
+        let value = word_at(trace, 4 + self.kinds.len() + 4 * at);
+        (trace[4 + at], value)
     }
 
     // Whether a party gets the same answers as in another run.

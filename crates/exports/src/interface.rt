@@ -20,14 +20,15 @@ pub extern "C" fn rehearsal_read(file: &[u8], sizes: &mut [u8]) -> u64
     ensures value { result ≡ reading_answer (read_file file.now) sizes.old }
     ensures sizes_after { sizes.new ≡ sizes_after (read_file file.now) sizes.old }
 {
-    match read(file) {
-        Ok(_) if sizes.len() < 24 => refusal_answer(Refusal::Room),
-        Ok((found, entries)) => {
-            put_sizes(sizes, found);
-            entries as u64
-        }
-        Err(refusal) => refusal_answer(refusal),
+    let reading = read(file);
+    let Ok((found, entries)) = reading else {
+        return refusal_answer(refusal_of(reading));
+    };
+    if sizes.len() < 24 {
+        return refusal_answer(Refusal::Room);
     }
+    put_sizes(sizes, found);
+    entries as u64
 }
 
 // Runs a schedule file on the queue that is named, as the two functions below tell it.

@@ -48,7 +48,9 @@ pub fn read(file: &[u8]) -> Result<(Sizes, usize), Refusal>
     ensures refuses { Refuses (file_has file.now) (refusal_in result) }
 {
     let reading = read_sizes(file);
-    let (sizes, _) = reading?;
+    let Ok((sizes, _)) = reading else {
+        return reading;
+    };
     let kinds = kind_part(file, reading);
     let operands = operand_part(file, reading);
     check_entries(sizes, kinds, operands)?;
@@ -78,12 +80,13 @@ pub fn kind_part(file: &[u8], reading: Result<(Sizes, usize), Refusal>) -> &[u8]
     ensures result_value { result.now ≡ kind_part file.now reading }
     ensures ref_ptr_value { result.ref_ptr ≡ behind (kind_start file.now reading) file.entry.ref_ptr }
 {
-    match reading {
-        Ok((_, entries)) if holds_kinds(file.len(), entries) => {
-            &file[SIZES_BYTES..SIZES_BYTES + entries]
-        }
-        _ => &file[..0],
+    let Ok((_, entries)) = reading else {
+        return &file[..0];
+    };
+    if !holds_kinds(file.len(), entries) {
+        return &file[..0];
     }
+    &file[SIZES_BYTES..SIZES_BYTES + entries]
 }
 
 // The part of a file that its operands are, four bytes each, to the end, as the answer of `read` says; an empty part, likewise.
@@ -91,8 +94,11 @@ pub fn operand_part(file: &[u8], reading: Result<(Sizes, usize), Refusal>) -> &[
     ensures result_value { result.now ≡ operand_part file.now reading }
     ensures ref_ptr_value { result.ref_ptr ≡ behind (operand_start file.now reading) file.entry.ref_ptr }
 {
-    match reading {
-        Ok((_, entries)) if holds_kinds(file.len(), entries) => &file[SIZES_BYTES + entries..],
-        _ => &file[..0],
+    let Ok((_, entries)) = reading else {
+        return &file[..0];
+    };
+    if !holds_kinds(file.len(), entries) {
+        return &file[..0];
     }
+    &file[SIZES_BYTES + entries..]
 }

@@ -3,7 +3,7 @@ ghost use Rattle.terms.specs.Sizes.{sizes_in_range};
 ghost use Rattle.schedule.specs.Entries.{check_entries};
 ghost use Rattle.schedule.specs.Format.{words_in};
 
-use schedule::{kind_part, operand_part, read};
+use schedule::{kind_part, operand_part, read, refusal_of};
 use terms::{Refusal, Sizes};
 
 // A schedule file that was accepted: its sizes, and its kinds and operands, parts of the file.
@@ -25,7 +25,9 @@ impl<'a> Accepted<'a> {
         ensures { ReadAs file.now result }
     {
         let reading = read(file);
-        let (sizes, _) = reading?;
+        let Ok((sizes, _)) = reading else {
+            return Err(refusal_of(reading));
+        };
         Ok(Accepted {
             sizes,
             kinds: kind_part(file, reading),

@@ -32,19 +32,19 @@ use Rattle.schedule.proofs.Laws.Trace.{line_in_number, line_in_value}
 module _ (r : Run) (at : ℕ) (there : at < length r.kinds.now) where
   -- an entry gets an answer for the party by the byte of its outcome, and by whose entry it is
   pub answered_byte : (party : ℕ) → answered party r at
-      ≡ (is_answer_number (get_or r.trace (4 + at) 0) && eqb (party_number (entry_to_obey (entry_at r.sizes r.kinds.now (words_in r.operands.now) at))) party)
+      ≡ (is_answer_number (get_or r.trace.now (4 + at) 0) && eqb (party_number (entry_to_obey (entry_at r.sizes r.kinds.now (words_in r.operands.now) at))) party)
   unfolding answered line_at
   answered_byte party =
       ap (λ n. is_answer_number n && eqb (party_number (entry_to_obey (entry_at r.sizes r.kinds.now (words_in r.operands.now) at))) party)
-      (line_in_number (length r.kinds.now) r.trace at there)
+      (line_in_number (length r.kinds.now) r.trace.now at there)
 
-  pub number_byte : get_or r.trace (4 + at) 0 ≡ (line_at r at).number
+  pub number_byte : get_or r.trace.now (4 + at) 0 ≡ (line_at r at).number
   unfolding line_at
-  number_byte = sym (line_in_number (length r.kinds.now) r.trace at there)
+  number_byte = sym (line_in_number (length r.kinds.now) r.trace.now at there)
 
-  pub value_bytes : 4 + 5 * length r.kinds.now ≤ length r.trace → word_at r.trace (4 + length r.kinds.now + 4 * at) ≡ (line_at r at).value
+  pub value_bytes : 4 + 5 * length r.kinds.now ≤ length r.trace.now → word_at r.trace.now (4 + length r.kinds.now + 4 * at) ≡ (line_at r at).value
   unfolding line_at
-  value_bytes long = sym (line_in_value (length r.kinds.now) r.trace at there long)
+  value_bytes long = sym (line_in_value (length r.kinds.now) r.trace.now at there long)
 
 -- ── Iterators ───────────────────────────────────────────────────────────────────────────────────────────────────────────────
 

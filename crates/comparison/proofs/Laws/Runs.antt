@@ -42,7 +42,7 @@ module _ (r : Run) (l : List ℕ) where
   abbrev os : List Outcome
   os = outcomes_from s kinds operands
 
-  module _ (fit : all_below 4294967296 (map value_of os) ≡ true) (written : r.trace ≡ overwritten 0 (trace_of os) l) (party : ℕ) where
+  module _ (fit : all_below 4294967296 (map value_of os) ≡ true) (written : r.trace.now ≡ overwritten 0 (trace_of os) l) (party : ℕ) where
     -- the line of an entry
     line_told : (at : ℕ) → at < length kinds → line_at r at ≡ line_of (get_or os at Moved)
     unfolding line_at
@@ -79,5 +79,5 @@ module _ (r : Run) (l : List ℕ) where
 
 -- so a run is one of its schedule
 pub run_of : (r : Run) (l : List ℕ) → all_below 4294967296 (map value_of (outcomes_from r.sizes r.kinds.now (words_in r.operands.now))) ≡ true
-    → r.trace ≡ overwritten 0 (trace_of (outcomes_from r.sizes r.kinds.now (words_in r.operands.now))) l → RunOf r.sizes r.kinds.now r.operands.now r
+    → r.trace.now ≡ overwritten 0 (trace_of (outcomes_from r.sizes r.kinds.now (words_in r.operands.now))) l → RunOf r.sizes r.kinds.now r.operands.now r
 run_of r l fit written = record { sizes = refl; answers = lines_of_run r l fit written }

@@ -1,6 +1,6 @@
 -- what the two readings are decides, then the sizes, then the answers
-use Rattle.std.proofs.Common.{◌≡◌, ◌∙◌, ℕ, List, Bool, ap, refl, sym, arith, true, false, rules, Result, Ok, Err, MatchResult, is_ok}
-use mathlib.Core.Bool.{◌&&◌, false≢true}
+use Rattle.std.proofs.Common.{◌≡◌, ◌∙◌, ℕ, List, Bool, ap, refl, sym, arith, true, false, rules, Result, Ok}
+use mathlib.Core.Bool.{◌&&◌}
 use Rattle.terms.proofs.Laws.Tests.{known}
 use Rattle.schedule.specs.Reader.{kind_part, operand_part, read_file}
 use Rattle.schedule.proofs.Laws.Run.{PartsOf, parts_obeyed}
@@ -9,11 +9,6 @@ use Rattle.comparison.specs.Alike.{likeness, likeness_of, same_answers, same_siz
 use Rattle.comparison.specs.Comparison.{RunOf, same_for_all}
 use Rattle.comparison.proofs.Laws.Alike.{alike_promises, files_compared, same_sizes_lem}
 use Rattle.comparison.proofs.likeness.alike.Goals as goal
-
--- what is no error, once its error has another name, was none before
-kept : {A E F : Type 0} (N : E → Type 0) (r : Result A E) (q : Result A F) (a : A) → MatchResult r (λ x. q ≡ Ok x) N → is_ok q ≡ is_ok r → q ≡ Ok a → r ≡ Ok a
-kept N (Ok x) q a same both told = let joined = sym same ∙ told in let one : x ≡ a = cc in ap Ok one
-kept N (Err e) q a same both told = absurd (false≢true (sym both ∙ ap is_ok told))
 
 -- the parts of a file that was read, by sizes that are its own
 parts_read : (file : List ℕ) {reading : Result (Sizes × ℕ) Refusal} {s t : Sizes} {n : ℕ} {kinds operands : List ℕ} → reading ≡ read_file file → reading ≡ Ok (t, n) → s ≡ t
@@ -30,9 +25,6 @@ decided first second {s = s} {t = t} one two same parts other_parts run other_ru
     ap Ok (finds ∙ files_compared first second parts other_parts run other_run)
     ∙ sym ((λ i. likeness_of first second (one i) (two i)) ∙ (λ i. Ok (same i && same_answers s.thieves first second)))
 
-pub returns-in_err-other_sizes-clause-likeness_refuses : goal.returns-in_err-other_sizes-clause-likeness_refuses
-returns-in_err-other_sizes-clause-likeness_refuses c = alike_promises c.args.first.now c.args.second.now c.from_residual-in_err-other_sizes.result (search rules)
-
 pub returns-then-ne-clause-likeness_refuses : goal.returns-then-ne-clause-likeness_refuses
 returns-then-ne-clause-likeness_refuses c = alike_promises c.args.first.now c.args.second.now (Ok false) (search rules)
 
@@ -40,24 +32,20 @@ returns-then-ne-clause-likeness_refuses c = alike_promises c.args.first.now c.ar
 
 pub new-run-requires : goal.new-run-requires
 new-run-requires c =
-    let told = kept _ _ _ _ c.map_err.ensures.cases c.map_err.ensures.variant c.in_ok-sizes.was in
-    let parts = parts_read c.args.first.now c.read-reading.ensures.value told refl c.kind_part.ensures.result_value c.operand_part.ensures.result_value in
+    let parts = parts_read c.args.first.now c.read-reading.ensures.value c.in-Ok.is refl c.kind_part.ensures.result_value c.operand_part.ensures.result_value in
     omega (arith, parts.many, parts.few)
 
 pub new-other_run-requires : goal.new-other_run-requires
 new-other_run-requires c =
-    let told = kept _ _ _ _ c.map_err-2.ensures.cases c.map_err-2.ensures.variant c.in_ok-other_sizes.was in
-    let parts = parts_read c.args.second.now c.read-other.ensures.value told refl c.kind_part-2.ensures.result_value c.operand_part-2.ensures.result_value in
+    let parts = parts_read c.args.second.now c.read-other.ensures.value c.in-Ok-other.is refl c.kind_part-2.ensures.result_value c.operand_part-2.ensures.result_value in
     omega (arith, parts.many, parts.few)
 
 pub returns-clause-value : goal.returns-clause-value
 returns-clause-value c =
-    let same : same_sizes c.in_ok-sizes.sizes c.in_ok-other_sizes.other_sizes ≡ true = search rules in
-    let told = kept _ _ _ _ c.map_err.ensures.cases c.map_err.ensures.variant c.in_ok-sizes.was in
-    let other-told = kept _ _ _ _ c.map_err-2.ensures.cases c.map_err-2.ensures.variant c.in_ok-other_sizes.was in
-    decided c.args.first.now c.args.second.now (known c.read-reading.ensures.value told) (known c.read-other.ensures.value other-told) same
-    (parts_read c.args.first.now c.read-reading.ensures.value told refl c.kind_part.ensures.result_value c.operand_part.ensures.result_value)
-    (parts_read c.args.second.now c.read-other.ensures.value other-told (same_sizes_lem c.in_ok-sizes.sizes c.in_ok-other_sizes.other_sizes same) c.kind_part-2.ensures.result_value c.operand_part-2.ensures.result_value)
+    let same : same_sizes c.in-Ok.sizes c.in-Ok-other.other_sizes ≡ true = search rules in
+    decided c.args.first.now c.args.second.now (known c.read-reading.ensures.value c.in-Ok.is) (known c.read-other.ensures.value c.in-Ok-other.is) same
+    (parts_read c.args.first.now c.read-reading.ensures.value c.in-Ok.is refl c.kind_part.ensures.result_value c.operand_part.ensures.result_value)
+    (parts_read c.args.second.now c.read-other.ensures.value c.in-Ok-other.is (same_sizes_lem c.in-Ok.sizes c.in-Ok-other.other_sizes same) c.kind_part-2.ensures.result_value c.operand_part-2.ensures.result_value)
     c.new-run.ensures c.new-other_run.ensures c.same_for_all.ensures
 
 pub returns-clause-likeness_refuses : goal.returns-clause-likeness_refuses

@@ -6,7 +6,7 @@ use Rattle.schedule.specs.Entries.{check_entries, check_parts}
 use Rattle.schedule.specs.Format.{entries_in, kinds_in, operands_in, sizes_in}
 use Rattle.schedule.specs.Reader.{kind_part, operand_part, read_file, reading_of}
 use Rattle.schedule.proofs.Faults.{read_promises}
-use Rattle.schedule.proofs.Laws.Reader.{parts_checked, sizes_decide, sizes_read}
+use Rattle.schedule.proofs.Laws.Reader.{parts_checked, sizes_decide, sizes_read, sizes_refused}
 use Rattle.schedule.proofs.reader.read.Goals as goal
 
 -- where the sizes are right, the check of the two parts decides
@@ -26,17 +26,23 @@ decided file {s} {n} sized accepted kinds_are operands_are checks =
     in
     (accepted ∙ (λ i. Ok (right.0 i, right.1.0 i)), right.1.1.1 ∙ ap (reading_of file) (sym checked))
 
+pub returns-in_default-clause-refuses : goal.returns-in_default-clause-refuses
+returns-in_default-clause-refuses c =
+    let file = c.args.file.now in
+    let refused = sizes_refused file _ (sym c.read_sizes-reading.ensures ∙ c.in_default.is) in
+    (read_promises file c.read_sizes-reading.result (c.in_default.is ∙ sym refused)).1
+
 pub returns-in_err-check_entries : goal.returns-in_err-check_entries
 returns-in_err-check_entries c =
     let file = c.args.file.now in
-    let by_parts = decided file c.read_sizes-reading.ensures c.in_ok-sizes.was c.kind_part-kinds.ensures.result_value c.operand_part-operands.ensures.result_value c.check_entries.ensures.value in
-    let failed = err_from_is_err_and c.from_residual-in_err-check_entries.result c.from_residual-in_err-check_entries.ensures.1 in
+    let by_parts = decided file c.read_sizes-reading.ensures c.in-Ok.is c.kind_part-kinds.ensures.result_value c.operand_part-operands.ensures.result_value c.check_entries.ensures.value in
+    let failed = err_from_is_err_and c.from_residual.result c.from_residual.ensures.1 in
     let p = read_promises file _ (failed.1 ∙ ap Err failed.2 ∙ sym (by_parts.1 ∙ ap (reading_of file) c.in_err-check_entries.was)) in
     record { value = p.0; refuses = p.1 }
 
 pub returns : goal.returns
 returns c =
     let file = c.args.file.now in
-    let by_parts = decided file c.read_sizes-reading.ensures c.in_ok-sizes.was c.kind_part-kinds.ensures.result_value c.operand_part-operands.ensures.result_value c.check_entries.ensures.value in
+    let by_parts = decided file c.read_sizes-reading.ensures c.in-Ok.is c.kind_part-kinds.ensures.result_value c.operand_part-operands.ensures.result_value c.check_entries.ensures.value in
     let p = read_promises file _ (by_parts.0 ∙ sym (by_parts.1 ∙ ap (reading_of file) c.in_ok-check_entries.was)) in
     record { value = p.0; refuses = p.1 }

@@ -13,14 +13,14 @@ parts_read file reads told kinds operands = parts_obeyed file (known reads told)
 
 pub invariant_of-result : goal.invariant_of-result
 invariant_of-result c =
-    let parts = parts_read c.args.file.now c.read-reading.ensures.value c.in_ok-sizes.was c.kind_part.ensures.result_value c.operand_part.ensures.result_value in
+    let parts = parts_read c.args.file.now c.read-reading.ensures.value c.in-Ok.is c.kind_part.ensures.result_value c.operand_part.ensures.result_value in
     record { ranged = parts.ranged; few = omega (arith, parts.few, parts.many); allowed = parts.allowed }
 
 pub returns : goal.returns
 returns c =
-    let parts = parts_read c.args.file.now c.read-reading.ensures.value c.in_ok-sizes.was c.kind_part.ensures.result_value c.operand_part.ensures.result_value in
+    let parts = parts_read c.args.file.now c.read-reading.ensures.value c.in-Ok.is c.kind_part.ensures.result_value c.operand_part.ensures.result_value in
     record {
-      read = known c.read-reading.ensures.value c.in_ok-sizes.was ∙ ap (λ n. Ok (c.in_ok-sizes.sizes, n)) (sym parts.many);
+      read = known c.read-reading.ensures.value c.in-Ok.is ∙ ap (λ n. Ok (c.in-Ok.sizes, n)) (sym parts.many);
       same_entries = parts.entries;
       same_outcomes = parts_outcomes ff_the parts;
     }
