@@ -1,6 +1,6 @@
 -- Laws of checks: of several in their order, of one at each number below a bound, and of the seven sizes.
 use mathlib.Core.Path.{◌≡◌, refl, ap, sym, ◌∙◌}
-use mathlib.Core.Bool.{Bool, true, false}
+use mathlib.Core.Bool.{Bool, true, false, cond}
 use mathlib.Core.List.{List, [], ◌∷◌, ◌++◌, map, map-append}
 use Prim.Native.Nat.{ℕ, zero, suc, ◌+◌, ◌≤◌, ◌<◌, suc-le-suc}
 use native.Mathlib.Nat.{add-zero, le_dest, le_of_suc-le-suc, not-suc-le-zero, zero-add, zero-lt-suc}
@@ -12,7 +12,7 @@ use borrow.Author.Tests.{leb-true}
 use Rattle.std.proofs.Common.{Result, Ok, Err, Option, Some, None, is_none}
 use Rattle.terms.specs.Sizes.{check_sizes, first_fault, ranges_kept, sizes_in_range, within}
 use Rattle.terms.proofs.Laws.Sizes.{fault_told, kept_at}
-use Rattle.terms.proofs.Laws.Tests.{and_right}
+use Rattle.terms.proofs.Laws.Tests.{and_right, cond_map}
 use Rattle.terms.specs.Lists.{range_from, range}
 use Rattle.terms.proofs.Laws.Sums.{length_range, range_suc}
 use Rattle.schedule.specs.Types.{Refusal, Size, Sizes}
@@ -123,7 +123,14 @@ module _ (f : ℕ → Result Unit Refusal) where
 
 -- ── Sizes ───────────────────────────────────────────────────────────────────────────────────────────────────────────────────
 
--- tests behind others do not count where one of these failed
+-- tests behind others count where these passed, and do not where one of these failed
+fault_append : (place : ℕ) (l m : List Bool) → first_fault place l ≡ None → first_fault place (l ++ m) ≡ first_fault (place + length l) m
+fault_append place [] m e = rw add-zero
+fault_append place (true ∷ l) m e =
+    let further : place + 1 + length l ≡ place + suc (length l) = omega arith in
+    fault_append (place + 1) l m e ∙ ap (λ n. first_fault n m) further
+fault_append place (false ∷ l) m e = cc
+
 fault_append_found : (place at : ℕ) (l m : List Bool) → first_fault place l ≡ Some at → first_fault place (l ++ m) ≡ Some at
 fault_append_found place at [] m e = cc
 fault_append_found place at (true ∷ l) m e = fault_append_found (place + 1) at l m e
@@ -133,6 +140,11 @@ fault_append_found place at (false ∷ l) m e = e
 module _ (s : Sizes) (entries : ℕ) where
   pub ranges_found : (place : ℕ) → check_sizes s ≡ Some place → check_ranges s entries ≡ Err (Size place)
   ranges_found place e = ap size_refusal (fault_append_found 0 place (ranges_kept s) (within 0 4096 entries ∷ []) e)
+
+  pub ranges_kept_lem : check_sizes s ≡ None → check_ranges s entries ≡ cond (within 0 4096 entries) (Ok tt) (Err (Size 6))
+  ranges_kept_lem e =
+      ap size_refusal (fault_append 0 (ranges_kept s) (within 0 4096 entries ∷ []) e)
+      ∙ sym (cond_map size_refusal (within 0 4096 entries) refl refl)
 
 module _ (s : Sizes) (entries : ℕ) where
   -- what the check of the seven sizes says of each

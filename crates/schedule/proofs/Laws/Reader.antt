@@ -3,6 +3,7 @@ use mathlib.Core.Path.{◌≡◌, refl, ap, sym, ◌∙◌}
 use mathlib.Core.Bool.{false, not, true}
 use mathlib.Core.List.{List, [], ◌∷◌}
 use Prim.Native.Nat.{ℕ, ◌+◌, ◌*◌, ◌≤◌, ◌<◌}
+use native.Mathlib.Nat.{zero-add}
 use native.Mathlib.Omega.{arith}
 use lib.Dec.{eqb, ltb}
 use lib.ListN.{length, drop, get_or, length-drop, take}
@@ -15,10 +16,35 @@ use Rattle.number.proofs.Laws.Words.{word_there}
 use Rattle.schedule.specs.Check.{check_ranges, fail_if, first}
 use Rattle.schedule.specs.Format.{entries_in, kinds_in, operands_in, size_in, sizes_in, words_in}
 use Rattle.schedule.specs.Entries.{check_entries, check_parts}
-use Rattle.schedule.specs.Reader.{holds_kinds, kind_part, operand_part, read_file, reading_checks, reading_of, size_checks}
+use Rattle.schedule.specs.Reader.{behind, holds_kinds, kind_part, operand_part, part_of, read_file, reading_checks, reading_of, size_checks, start_of}
 use Rattle.schedule.proofs.Laws.Check.{fail_if_passed, first_append, first_append_failed, first_failed, first_one, first_passed}
 use Rattle.schedule.proofs.Laws.Entries.{parts_together}
 use Rattle.schedule.proofs.Laws.Format.{get_d_words, kinds_in_part, length-kinds_in, operands_in_part}
+
+-- nothing behind a place is that place
+behind_none : (place : ℕ × ℕ) → behind 0 place ≡ place
+behind_none place = λ i. (place.0, zero-add place.1 i)
+
+-- what is cut out of a file that lies at a place, and where the part lies, by the answer that is handed in
+module _ (file : List ℕ) (place : ℕ × ℕ) (part : ℕ → List ℕ) (start : ℕ → ℕ) where
+  abbrev pub IsPart : Result (Sizes × ℕ) Refusal → List ℕ → ℕ × ℕ → Type 0
+  IsPart answer cut at = (cut ≡ part_of file answer part) × (at ≡ behind (start_of file answer start) place)
+
+  pub cut_refused : {answer : Result (Sizes × ℕ) Refusal} {r : Refusal} → answer ≡ Err r → IsPart answer [] place
+  cut_refused told = (sym (ap (λ a. part_of file a part) told), sym (ap (λ a. behind (start_of file a start) place) told ∙ behind_none place))
+
+  module _ {answer : Result (Sizes × ℕ) Refusal} {s : Sizes} {n : ℕ} (told : answer ≡ Ok (s, n)) where
+    pub cut_nothing : holds_kinds file n ≡ false → IsPart answer [] place
+    cut_nothing none = (
+      sym (ap (λ a. part_of file a part) told ∙ by_test _ _ none),
+      sym (ap (λ a. behind (start_of file a start) place) told ∙ ap (λ k. behind k place) (by_test _ _ none) ∙ behind_none place),
+    )
+
+    pub cut_there : holds_kinds file n ≡ true → {cut : List ℕ} → cut ≡ part n → IsPart answer cut (behind (start n) place)
+    cut_there held cut = (
+      cut ∙ sym (ap (λ a. part_of file a part) told ∙ by_test _ _ held),
+      sym (ap (λ a. behind (start_of file a start) place) told ∙ ap (λ k. behind k place) (by_test _ _ held)),
+    )
 
 module _ (file : List ℕ) where
   -- the size at each place of the table lies at four times its place

@@ -7,7 +7,7 @@ use native.Mathlib.Nat.{mod-eq_of_lt, mod-lt, zero-add}
 use native.Mathlib.Omega.{arith}
 use lib.Dec.{leb, lit<, ltb}
 use lib.ListN.{length, drop, get_or, length-map, length-replicate, get_or-eq_default, replicate}
-use borrow.Author.Tests.{le-leb, le-ltb, leb-true, lt-ltb, ltb-false, ltb-true}
+use borrow.Author.Tests.{le-leb, le-ltb, leb-false, leb-true, lt-ltb, ltb-false, ltb-true}
 use Rattle.std.proofs.Common.{Result, Ok, Err}
 use Rattle.terms.specs.Outcome.{value_of}
 use Rattle.terms.specs.declared.outcome.Outcome.TheVariants.{Moved, Place, Early, Wait, Stored, Task, Empty, Abort, Full, End}
@@ -294,6 +294,12 @@ trace_fits_lem n room few enough = λ i. le-leb n 4096 few i && le-leb (trace_le
 
 pub fits_room : (n room : ℕ) → trace_fits n room ≡ true → trace_length n ≤ room
 fits_room n room fits = leb-true (trace_length n) room (and_right (leb n 4096) (leb (trace_length n) room) fits)
+
+pub fits_few : (n room : ℕ) → trace_fits n room ≡ true → n ≤ 4096
+fits_few n room fits = leb-true n 4096 (and_left (leb n 4096) (leb (trace_length n) room) fits)
+
+pub fits_not : (n room : ℕ) → n ≤ 4096 → trace_fits n room ≡ false → room < trace_length n
+fits_not n room few none = leb-false (trace_length n) room (ap (λ b. b && leb (trace_length n) room) (sym (le-leb n 4096 few)) ∙ none)
 
 -- the longest trace has room for that of any run
 pub longest_fits : (n : ℕ) → n ≤ 4096 → trace_fits n (length (replicate {A = ℕ} 20484 0)) ≡ true
